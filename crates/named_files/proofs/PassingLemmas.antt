@@ -3,7 +3,7 @@ use Rattle.std.proofs.Common.{◌≡◌, sym, refl, subst, inl, inr, ℕ, Bool, 
 use Rattle.std.proofs.lemmas.List.{append_assoc}
 use Rattle.edge_io.specs.declared.counts.FileCounts.{FileCounts}
 use Rattle.refusal_lines.specs.declared.refusal.Refusal.{Refusal}
-use Rattle.named_files.specs.Checks.{After, AfterFile}
+use Rattle.named_files.specs.Checks.{After, AfterFile, Refuses}
 use Rattle.named_files.specs.Outcome.{Outcome}
 use Rattle.named_files.specs.Passing.{Continuation, Never, Only, Passes, Steps}
 use Rattle.named_files.specs.Readings.{Reading, AreReadings}
@@ -70,3 +70,15 @@ module _ (names : Option (List ℕ → Bool)) (bytes : Option (List ℕ → List
   -- a value that needs no file
   pub value_passes : {X : Type 0} (Step : Continuation X → List Reading → Outcome → Type 0) (x : X) (counts : FileCounts) → ((rest : List Reading) (outcome : Outcome) → Step (Only x rest outcome) rest outcome) → Passes names bytes counts counts Step (Ok x)
   value_passes Step x counts steps = record { readings = []; are = no_readings names bytes counts; steps = steps }
+
+  -- a check that begins no file
+  module _ {X Y : Type 0} (Checked : Result X Outcome → Type 0) (Then : X → Continuation Y → List Reading → Outcome → Type 0) where
+    pub check_passes : (x : X) (old new : FileCounts) (result : Result Y Refusal) → Checked (Ok x) → Passes names bytes old new (Then x) result → Passes names bytes old new (λ Next. After Checked (λ v. Then v Next)) result
+    check_passes x old new result passed next = record { readings = next.readings; are = next.are; steps = by result next.steps }
+      where
+        by : (r : Result Y Refusal) → Steps (Then x) next.readings r → Steps (λ Next. After Checked (λ v. Then v Next)) next.readings r
+        by (Ok y) steps = λ rest outcome. inl (x, passed, steps rest outcome)
+        by (Err why) steps = inl (x, passed, steps)
+
+    pub check_stops : (counts : FileCounts) (why : Refusal) → Refuses Checked (refused_of why) → Passes {X = Y} names bytes counts counts (λ Next. After Checked (λ v. Then v Next)) (Err why)
+    check_stops counts why refused = record { readings = []; are = no_readings names bytes counts; steps = inr (refl, refused) }

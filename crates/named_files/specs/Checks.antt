@@ -124,11 +124,6 @@ HasRoom choice net machine timing (Ok passed) = FitsBy choice net machine timing
 HasRoom choice net machine timing (Err outcome) =
     (why : CompNo) × IsOverfull why × IsRight net machine timing why × (FitsBy choice net machine timing → ⊥) × (outcome ≡ refusal status.Overfull (overfull_line net why))
 
--- a loop refuses the design, or else that it does not fit
-abbrev pub RefusesDesign : HomeChoice → Netlist → Machine → Timing → Outcome → Type 0
-RefusesDesign choice net machine timing outcome =
-    Refuses (HasNoLoop net timing) outcome ⊎ (HasNoLoop net timing (Ok tt) × Refuses (HasRoom choice net machine timing) outcome)
-
 -- ---- sizes
 
 -- a size is within its limit; where it is not, the refusal says so

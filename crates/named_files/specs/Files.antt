@@ -1,13 +1,17 @@
 -- The files that words name: each is begun, and its text is checked; what comes next is given.
 use Rattle.std.specs.Prelude.{List, ℕ, Option, Some, None}
+use Rattle.image_defs.specs.declared.file.ImageFile.{ImageFile}
+use Rattle.image_defs.specs.declared.image.Image.{Image}
 use Rattle.machine_text.specs.declared.machine.Machine.{Machine}
 use Rattle.machine_text.specs.Machines.{default_machine}
 use Rattle.net_defs.specs.declared.faults.Fault.{Fault}
+use Rattle.net_defs.specs.declared.homes.HomeChoice.{HomeChoice}
 use Rattle.net_defs.specs.declared.netlist.Netlist.{Netlist}
 use Rattle.net_defs.specs.declared.stimulus.Stimulus.{Stimulus}
 use Rattle.net_defs.specs.declared.timing.Timing.{Timing}
 use Rattle.cmd_words.specs.declared.command.RunWords.{RunWords}
-use Rattle.named_files.specs.Checks.{After, AfterFile, IsMachineOf, IsNetlistOf, IsStimulusOf, IsListOf, IsFaultListOf, listing, IsLanesOf}
+use Rattle.named_files.specs.Checks.{After, AfterFile, HasNoLoop, HasRoom, IsMachineOf, IsNetlistOf, IsStimulusOf, IsListOf, IsFaultListOf, listing, IsLanesOf}
+use Rattle.named_files.specs.Images.{IsAccepted, IsImageFileOf}
 use Rattle.named_files.specs.Outcome.{Outcome}
 use Rattle.named_files.specs.Readings.{Reading}
 use Rattle.stim_text.specs.declared.lanes.Lanes.{Lanes}
@@ -49,3 +53,19 @@ unfoldable pub AfterNetlist : RunWords → (Netlist → Timing → List Reading 
 AfterNetlist words End =
     AfterFile words.netlist (λ text.
     After (IsNetlistOf text) (λ net. AfterList words.last net words.timing (End net)))
+
+-- the loop, and whether the design fits the machine by the choice of homes
+abbrev pub AfterFit : HomeChoice → Netlist → Machine → Timing → (List Reading → Outcome → Type 0) → List Reading → Outcome → Type 0
+AfterFit choice net machine timing Next =
+    After (HasNoLoop net timing) (λ passed.
+    After (HasRoom choice net machine timing) (λ fits. Next))
+
+-- the netlist accepts the image, whose claims are of no use from then on
+abbrev pub AfterMatch : Netlist → Timing → ImageFile → (Image → List Reading → Outcome → Type 0) → List Reading → Outcome → Type 0
+AfterMatch net timing file Next = After (IsAccepted net timing file) (λ accepted. Next file.image)
+
+-- the image file, its text, and whether the netlist accepts the image
+unfoldable pub AfterImage : List ℕ → Netlist → Timing → (Image → List Reading → Outcome → Type 0) → List Reading → Outcome → Type 0
+AfterImage name net timing Next =
+    AfterFile name (λ text.
+    After (IsImageFileOf text) (λ file. AfterMatch net timing file Next))

@@ -1,5 +1,6 @@
 pub mod Checks
 pub mod code
+pub mod Designs
 pub mod Files
 pub mod Images
 pub mod Outcome

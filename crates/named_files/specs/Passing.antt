@@ -3,17 +3,19 @@ use Rattle.std.specs.Prelude.{◌≡◌, ℕ, Bool, List, ◌++◌, Option, Resu
 use Rattle.edge_io.specs.declared.counts.FileCounts.{FileCounts}
 use Rattle.cmd_words.specs.declared.command.RunWords.{RunWords}
 use Rattle.net_defs.specs.declared.netlist.Netlist.{Netlist}
-use Rattle.image_defs.specs.declared.file.ImageFile.{ImageFile}
+use Rattle.net_defs.specs.declared.timing.Timing.{Timing}
 use Rattle.machine_text.specs.declared.machine.Machine.{Machine}
 use Rattle.stim_text.specs.declared.order.Order.{Order}
+use Rattle.named_files.specs.declared.checks.Built.{Built}
+use Rattle.named_files.specs.declared.designs.Runnable.{Runnable}
 use Rattle.named_files.specs.declared.reading.Timed.{Timed}
 use Rattle.refusal_lines.specs.declared.refusal.Refusal.{Refusal}
-use Rattle.named_files.specs.Checks.{After, AfterFile, IsNetlistOf, IsOrderOf}
+use Rattle.named_files.specs.Checks.{After, AfterFile, HasNoLoop, IsNetlistOf, IsOrderOf}
+use Rattle.named_files.specs.Designs.{Placed, Prepared}
 use Rattle.named_files.specs.Outcome.{Outcome}
 use Rattle.named_files.specs.Readings.{Reading, AreReadings}
 use Rattle.named_files.specs.Refused.{refused_of}
-use Rattle.named_files.specs.Images.{IsImageFileOf}
-use Rattle.named_files.specs.Files.{AfterNetlist}
+use Rattle.named_files.specs.Files.{AfterFit, AfterImage, AfterMachine, AfterNetlist, AfterStimulus}
 
 -- what comes after a value
 abbrev pub Continuation : Type 0 → Type 1
@@ -52,6 +54,32 @@ AfterNetlistFile file Next = AfterFile file (λ text. After (IsNetlistOf text) N
 abbrev pub AfterOrderFile : List ℕ → Machine → Continuation Order → List Reading → Outcome → Type 0
 AfterOrderFile file machine Next = AfterFile file (λ text. After (IsOrderOf text machine) Next)
 
--- the image of a file
-abbrev pub AfterImageFile : List ℕ → Continuation ImageFile → List Reading → Outcome → Type 0
-AfterImageFile file Next = AfterFile file (λ text. After (IsImageFileOf text) Next)
+-- ---- designs that are ready to run
+
+abbrev pub placed : RunWords → Machine → Netlist → Timing → Placed
+placed words machine net timing = record { homes = words.homes; machine = machine; timing = timing; net = net }
+
+-- the netlist, and whether it fits the machine
+abbrev pub AfterPlacedOn : RunWords → Machine → Continuation Placed → List Reading → Outcome → Type 0
+AfterPlacedOn words machine Next =
+    AfterNetlist words (λ net timing. AfterFit words.homes net machine timing (Next (placed words machine net timing)))
+
+-- the machine, the netlist, and whether it fits
+abbrev pub AfterPlaced : RunWords → Continuation Placed → List Reading → Outcome → Type 0
+AfterPlaced words Next = AfterMachine words.machine (λ machine. AfterPlacedOn words machine Next)
+
+-- the design on its machine, and then the stimulus
+abbrev pub AfterReady : RunWords → Continuation Prepared → List Reading → Outcome → Type 0
+AfterReady words Next =
+    AfterPlaced words (λ design. AfterStimulus words.stimulus design.net (λ stimulus. Next (record { placed = design; stimulus = stimulus })))
+
+-- the loop, and the image of a file, which the netlist accepts
+abbrev pub AfterBuilt : List ℕ → Netlist → Timing → Continuation Built → List Reading → Outcome → Type 0
+AfterBuilt file net timing Next =
+    After (HasNoLoop net timing) (λ passed. AfterImage file net timing (λ image. Next (record { net = net; image = image })))
+
+-- the netlist, and then such an image of it
+abbrev pub AfterRunnable : RunWords → List ℕ → Continuation Runnable → List Reading → Outcome → Type 0
+AfterRunnable words file Next =
+    AfterNetlist words (λ net timing.
+    AfterBuilt file net timing (λ built. Next (record { timing = timing; net = built.net; image = built.image })))

@@ -4,14 +4,16 @@ ghost use Rattle.std.specs.Prelude.{◌≡◌, ◌≤◌, Ok, Err, length, All, 
 ghost use Rattle.limits.specs.declared.TheConstants.{MAX_TEXT_BYTES};
 ghost use Rattle.net_defs.specs.Loops.{AreRanks, IsOrder};
 ghost use Rattle.machine_text.specs.Machines.{IsValid as IsValidMachine, ports_of};
-ghost use Rattle.net_defs.specs.declared.stimulus.Stimulus.{Stimulus};
+ghost use Rattle.machine_text.specs.declared.machine.Machine.{Machine};
+ghost use Rattle.net_defs.specs.declared.homes.HomeChoice.{HomeChoice};
+ghost use Rattle.net_defs.specs.declared.timing.Timing.{Timing};
 ghost use Rattle.net_defs.specs.Valid.{Ascends, IsFault, IsValid, IsValidStimulus, IsValidTiming, input_count};
-ghost use Rattle.yse_compile.specs.Chosen.{IsChosen, FitsBy};
-ghost use Rattle.yse_compile.specs.Compiled.{ShowsReference, IsOverfull, IsRight};
-ghost use Rattle.named_files.specs.Checks.{Refuses, IsFaultListOf, IsLanesOf, IsListOf, IsMachineOf, IsNetlistOf, IsOrderOf, IsStimulusOf, HasNoLoop, HasRoom, HasFewCells, cell_count, RefusesDesign};
+ghost use Rattle.yse_compile.specs.Chosen.{FitsBy};
+ghost use Rattle.yse_compile.specs.Compiled.{IsOverfull, IsRight};
+ghost use Rattle.named_files.specs.Checks.{Refuses, IsFaultListOf, IsLanesOf, IsListOf, IsMachineOf, IsNetlistOf, IsOrderOf, IsStimulusOf, HasNoLoop, HasFewCells, cell_count};
+ghost use Rattle.named_files.specs.code.Checks.{RefusesDesign};
 ghost use Rattle.stim_text.specs.Lanes.{AreLanes};
 ghost use Rattle.stim_text.specs.Orders.{IsValidOrder};
-ghost use Rattle.named_files.specs.Images.{IsImageOf, IsMachineImage};
 ghost use Rattle.named_files.specs.Refused.{Satisfies, refused_of};
 
 use bench_read::law::reads_as_valid;
@@ -19,7 +21,7 @@ use bench_read::{read_bench, read_faults, read_last};
 use image_defs::Image;
 use limits::MAX_CELLS;
 use machine_text::{Machine, read_machine};
-use net_defs::{Fault, HomeChoice, Netlist, Ranks, Stimulus, Timing};
+use net_defs::{Fault, Netlist, Ranks, Stimulus, Timing};
 use rank_find::{RankNo, order, rank};
 use refusal_lines::{
     Refusal, of_faults, of_lanes, of_list, of_machine, of_netlist, of_order, of_stimulus,
@@ -27,8 +29,7 @@ use refusal_lines::{
 use seen_list::List;
 use std::alloc::Global;
 use stim_text::{Lanes, Order, read_lanes, read_order, read_stim};
-use yse_compile::inputs::same_inputs;
-use yse_compile::{Chosen, CompNo, Compiled, compile_with};
+use yse_compile::CompNo;
 
 /// A netlist, and an order of its gates.
 #[derive(Drop)]
@@ -44,14 +45,7 @@ pub struct WithRanks {
     pub ranks: Ranks,
 }
 
-/// A netlist, and its design as it is compiled for a machine.
-#[derive(Drop)]
-pub struct Planned {
-    pub net: Netlist,
-    pub chosen: Chosen,
-}
-
-/// A netlist, and the image of it that a machine runs.
+/// A netlist, and an image of it.
 #[derive(Drop)]
 pub struct Built {
     pub net: Netlist,
@@ -153,42 +147,10 @@ pub fn ordered<'a>(alloc: Global, net: Netlist, timing: &Timing) -> Result<Desig
     }
 }
 
-/// The netlist with its design for the machine, and else a loop, or why it does not fit.
-pub fn designed<'a>(
-    alloc: Global,
-    net: Netlist,
-    machine: &Machine,
-    timing: &Timing,
-    choice: HomeChoice,
-) -> Result<Planned, Refusal<'a>>
-    requires net { IsValid net }
-    requires machine { IsValidMachine machine.now }
-    requires timing { IsValidTiming timing.now }
-    ensures same { IfOk result (λ planned. planned.net ≡ net) }
-    ensures acyclic { OnOk result (HasNoLoop net timing.now (Ok tt)) }
-    ensures fits { OnOk result (HasRoom choice net machine.now timing.now (Ok tt)) }
-    ensures chosen { IfOk result (λ planned. IsChosen net machine.now timing.now choice planned.chosen) }
-    ensures shown { IfOk result (λ planned. (stimulus : Stimulus)
-        → ShowsReference net timing.now stimulus planned.chosen.compiled.image) }
-    ensures refused { IfErr result (λ no. RefusesDesign choice net machine.now timing.now (refused_of no)) }
-{
-    match compile_with(alloc, &net, machine, timing, choice) {
-        Ok(chosen) => Ok(Planned { net, chosen }),
-        Err(no) => Err(of_design(net, machine, timing, choice, no)),
-    }
-}
-
 /// The refusal of a netlist that is not compiled, which a loop comes before.
-fn of_design<'a>(
-    net: Netlist,
-    _machine: &Machine,
-    _timing: &Timing,
-    _choice: HomeChoice,
-    no: CompNo,
-) -> Refusal<'a>
-    requires right { IsRight net _machine.now _timing.now no }
-    requires none { IsOverfull no → FitsBy _choice net _machine.now _timing.now → ⊥ }
-    ensures { RefusesDesign _choice net _machine.now _timing.now (refused_of result) }
+pub fn of_design<'a>(net: Netlist, no: CompNo) -> Refusal<'a>
+    ensures { (choice : HomeChoice) (machine : Machine) (timing : Timing) → IsRight net machine timing no
+        → (IsOverfull no → FitsBy choice net machine timing → ⊥) → RefusesDesign choice net machine timing (refused_of result) }
 {
     match no {
         CompNo::Loop(members) => Refusal::Loop(net, members),
@@ -223,50 +185,6 @@ fn of_design<'a>(
         }
         CompNo::Nodes { needed, limit } => Refusal::Overfull(net, CompNo::Nodes { needed, limit }),
     }
-}
-
-/// The netlist with its image for the machine, and else a loop, or why it does not fit.
-pub fn compiled<'a>(
-    alloc: Global,
-    net: Netlist,
-    machine: &Machine,
-    timing: &Timing,
-    choice: HomeChoice,
-) -> Result<Built, Refusal<'a>>
-    requires net { IsValid net }
-    requires machine { IsValidMachine machine.now }
-    requires timing { IsValidTiming timing.now }
-    ensures same { IfOk result (λ built. built.net ≡ net) }
-    ensures acyclic { OnOk result (HasNoLoop net timing.now (Ok tt)) }
-    ensures fits { OnOk result (HasRoom choice net machine.now timing.now (Ok tt)) }
-    ensures image { IfOk result (λ built. IsImageOf net timing.now built.image) }
-    ensures made { IfOk result (λ built. IsMachineImage choice net machine.now timing.now built.image) }
-    ensures refused { IfErr result (λ no. RefusesDesign choice net machine.now timing.now (refused_of no)) }
-{
-    same_inputs();
-    match designed(alloc, net, machine, timing, choice) {
-        Ok(planned) => Ok(built_of(planned)),
-        Err(no) => Err(no),
-    }
-}
-
-/// The netlist of a design with its image. What they were made from is given up.
-pub fn built_of(planned: Planned) -> Built
-    ensures { result ≡ record { net = planned.net; image = planned.chosen.compiled.image } }
-{
-    let Planned { net, chosen } = planned;
-    let Compiled {
-        image,
-        nodes,
-        homes,
-        plan,
-        switch,
-    } = chosen.compiled;
-    drop(nodes);
-    drop(homes);
-    drop(plan);
-    drop(switch);
-    Built { net, image }
 }
 
 /// Whether there are not too many cells.

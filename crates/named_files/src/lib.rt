@@ -3,16 +3,15 @@
 #![tactic(auto)]
 
 mod checks;
+mod designs;
 mod images;
 mod reading;
 mod sizes;
 
-pub use checks::{
-    Built, Design, Planned, WithRanks, built_of, compiled, designed, few_cells, ordered, ranked,
+pub use checks::{Built, Design, WithRanks, few_cells, ordered, ranked};
+pub use designs::{
+    OnMachine, Planned, Ready, Runnable, design_on_machine, few_ready_cells, lanes_for, order_for,
+    planned_on_machine, ready_on_machine, runnable_in,
 };
-pub use images::{Mapped, accepted, items_of};
-pub use reading::{
-    Timed, design_from, faults_from, image_in, lanes_in, machine_from, netlist_in, order_in,
-    stimulus_in,
-};
+pub use reading::{Timed, design_from, faults_from, machine_from, netlist_in, stimulus_in};
 pub use sizes::{few_bits, few_lane_cells, few_signals};

@@ -8,7 +8,8 @@ ghost use Rattle.machine_text.specs.Machines.{IsValid as IsValidMachine, ports_o
 ghost use Rattle.net_defs.specs.Valid.{IsFault, IsValid, IsValidStimulus, IsValidTiming, input_count};
 ghost use Rattle.stim_text.specs.Lanes.{AreLanes};
 ghost use Rattle.stim_text.specs.Orders.{IsValidOrder};
-ghost use Rattle.named_files.specs.Passing.{AfterImageFile, AfterNetlistFile, AfterOrderFile, AfterTimed, Passes};
+ghost use Rattle.named_files.specs.Passing.{AfterNetlistFile, AfterOrderFile, AfterTimed, Passes};
+ghost use Rattle.named_files.specs.code.Passing.{AfterImageFile};
 ghost use Rattle.named_files.specs.code.Texts.{GivesText};
 ghost use Rattle.named_files.specs.Files.{AfterFaultList, AfterLanes, AfterList, AfterMachine, AfterStimulus};
 

@@ -8,18 +8,18 @@ ghost use Rattle.stim_text.specs.Lanes.{AreLanes, longest};
 ghost use Rattle.named_files.specs.Checks.{HasFewBits, HasFewLaneCells, HasFewSignals, block_bits, lane_cell_count, memory_bits};
 ghost use Rattle.named_files.specs.Refused.{Satisfies};
 
+use crate::designs::OnMachine;
 use limits::{LANES, MAX_CELLS, MAX_FAULT_SIGNALS, MAX_PACK_BITS};
 use net_defs::{Block, Netlist};
 use refusal_lines::Refusal;
 use stim_text::Lanes;
 
 /// Whether there are not too many cells of lanes.
-pub fn few_lane_cells<'a>(net: &Netlist, lanes: &Lanes) -> Result<(), Refusal<'a>>
-    requires valid { IsValid net.now }
-    requires lanes { AreLanes (input_count net.now) lanes.now }
-    ensures { Satisfies result (HasFewLaneCells net.now lanes.now) }
+pub fn few_lane_cells<'a>(design: &OnMachine, lanes: &Lanes) -> Result<(), Refusal<'a>>
+    requires { AreLanes (input_count design.now.net) lanes.now }
+    ensures { Satisfies result (HasFewLaneCells design.now.net lanes.now) }
 {
-    let cells = lane_cell_count(net, lanes);
+    let cells = lane_cell_count(&design.run.net, lanes);
     if cells > MAX_CELLS {
         Err(Refusal::Cells(cells))
     } else {
@@ -47,11 +47,10 @@ fn lane_cycles(lanes: &Lanes) -> u32
 }
 
 /// Whether there are not too many bits of memories.
-pub fn few_bits<'a>(net: &Netlist) -> Result<(), Refusal<'a>>
-    requires { IsValid net.now }
-    ensures { Satisfies result (HasFewBits net.now) }
+pub fn few_bits<'a>(design: &OnMachine) -> Result<(), Refusal<'a>>
+    ensures { Satisfies result (HasFewBits design.now.net) }
 {
-    let bits = memory_bits(net);
+    let bits = memory_bits(&design.run.net);
     if bits > MAX_PACK_BITS {
         Err(Refusal::MemoryBits(bits))
     } else {

@@ -32,12 +32,13 @@ use Rattle.yse_commands.specs.Visited.{AreVisitsOfLanes}
 use Rattle.yse_commands.specs.code.Visited.{LanesTelling}
 use Rattle.yse_commands.specs.Telling.{KeepsGates, TellsOfLanes}
 use Rattle.named_files.specs.Files.{AfterLanes, AfterMachine}
-use Rattle.yse_commands.specs.commands.Pack.{AreLaneTraces, AreTracesAfter, ExpectedPack, KeepsLanesOn, PacksIn, PacksOn}
+use Rattle.yse_commands.specs.commands.Pack.{AreLaneTraces, AreTracesAfter, ExpectedPack, KeepsLanesOn, PacksOn}
 use Rattle.yse_commands.proofs.ShownLemmas.{run_trace}
 use Rattle.yse_commands.proofs.TracedLemmas.{reached_lanes, same_units}
 use Rattle.yse_commands.proofs.VisitedLemmas.{is_done, told_as}
-use Rattle.named_files.proofs.WeakerLemmas.{after_so, lanes_so, machine_so, netlist_so}
-use Rattle.yse_commands.proofs.WeakerLemmas.{fit_so}
+use Rattle.named_files.specs.Designs.{Placed}
+use Rattle.named_files.specs.Passing.{Continuation}
+use Rattle.named_files.proofs.WeakerLemmas.{after_so, lanes_so, placed_so}
 
 -- ---- the traces of lanes
 
@@ -57,6 +58,14 @@ pub lanes_printed : (net : Netlist) (timing : Timing) (lanes : Lanes) (image : I
 lanes_printed net timing lanes image of = printed_after net timing image of 0 lanes.lanes
 
 -- ---- the end of a run of lanes
+
+-- the lanes of a design on a machine, and this end
+abbrev pub lanes_then : RunWords → (Machine → Timing → Netlist → Lanes → List Reading → Outcome → Type 0) → Continuation Placed
+lanes_then words End design = AfterLanes words.stimulus design.net (End design.machine design.timing design.net)
+
+-- the bits of its memories before them
+abbrev pub packs_then : RunWords → (Machine → Timing → Netlist → Lanes → List Reading → Outcome → Type 0) → Continuation Placed
+packs_then words End design = After (HasFewBits design.net) (λ few. lanes_then words End design)
 
 module _ {G : Type 0} (p : gate.Ghosts G) (gates gates' : List (Option G)) (words : RunWords) (machine : Machine) (timing : Timing) (net : Netlist) (lanes : Lanes) where
   -- the traces were kept
@@ -93,11 +102,9 @@ module _ {G : Type 0} (p : gate.Ghosts G) (gates gates' : List (Option G)) (name
   expects_lanes follows = record {
     readings = follows.readings;
     are = follows.are;
-    expected = machine_so words.machine (PacksOn words (LanesTelling p gates gates' words)) (PacksOn words KeepsLanesOn)
-        (λ machine. netlist_so words (PacksIn words (LanesTelling p gates gates' words) machine) (PacksIn words KeepsLanesOn machine) (λ net timing.
-        fit_so words.homes net machine timing (After (HasFewBits net) (λ few. AfterLanes words.stimulus net (LanesTelling p gates gates' words machine timing net))) (After (HasFewBits net) (λ few. AfterLanes words.stimulus net (KeepsLanesOn machine timing net)))
-        (after_so (HasFewBits net) (λ few. AfterLanes words.stimulus net (LanesTelling p gates gates' words machine timing net)) (λ few. AfterLanes words.stimulus net (KeepsLanesOn machine timing net)) (λ few.
-        lanes_so words.stimulus net (LanesTelling p gates gates' words machine timing net) (KeepsLanesOn machine timing net) (λ lanes readings outcome telling. telling.ends)))))
+    expected = placed_so words (packs_then words (LanesTelling p gates gates' words)) (packs_then words KeepsLanesOn) (λ design.
+        after_so (HasFewBits design.net) (λ few. lanes_then words (LanesTelling p gates gates' words) design) (λ few. lanes_then words KeepsLanesOn design) (λ few.
+        lanes_so words.stimulus design.net (LanesTelling p gates gates' words design.machine design.timing design.net) (KeepsLanesOn design.machine design.timing design.net) (λ lanes readings outcome telling. telling.ends)))
         follows.readings (outcome_of result) follows.expected;
   }
 

@@ -6,8 +6,6 @@ mod GateLemmas
 mod LaneLemmas
 mod PassingLemmas
 mod ShownLemmas
-mod StepLemmas
 mod TraceLemmas
 pub mod TracedLemmas
 pub mod VisitedLemmas
-mod WeakerLemmas

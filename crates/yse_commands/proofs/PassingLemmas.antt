@@ -2,22 +2,34 @@
 use Rattle.std.proofs.Common.{◌≡◌, ℕ, Bool, List, ◌++◌, Option, Result, Ok, Err}
 use Rattle.edge_io.specs.declared.counts.FileCounts.{FileCounts}
 use Rattle.cmd_words.specs.declared.command.RunWords.{RunWords}
+use Rattle.image_defs.specs.declared.image.Image.{Image}
 use Rattle.machine_text.specs.declared.machine.Machine.{Machine}
 use Rattle.net_defs.specs.declared.netlist.Netlist.{Netlist}
 use Rattle.net_defs.specs.declared.stimulus.Stimulus.{Stimulus}
 use Rattle.net_defs.specs.declared.timing.Timing.{Timing}
 use Rattle.yse_commands.specs.declared.output.Output.{Output}
+use Rattle.named_files.specs.declared.designs.Runnable.{Runnable}
 use Rattle.named_files.specs.declared.reading.Timed.{Timed}
 use Rattle.refusal_lines.specs.declared.refusal.Refusal.{Refusal}
 use Rattle.named_files.specs.Outcome.{Outcome}
-use Rattle.named_files.specs.Passing.{AfterTimed, Continuation, Never, Only, Passes}
+use Rattle.named_files.specs.Designs.{Prepared}
+use Rattle.named_files.specs.Passing.{AfterReady, AfterTimed, Continuation, Never, Only, Passes}
 use Rattle.named_files.specs.Readings.{Reading}
 use Rattle.yse_commands.specs.Refusals.{Follows, outcome_of}
 use Rattle.named_files.specs.Refused.{refused_of}
 use Rattle.named_files.specs.Files.{AfterMachine, AfterNetlist, AfterStimulus}
 use Rattle.named_files.proofs.ReadingLemmas.{readings_both}
-use Rattle.named_files.proofs.WeakerLemmas.{Implies, machine_so, stimulus_so, timed_so}
+use Rattle.named_files.proofs.WeakerLemmas.{Implies, ready_so, stimulus_so, timed_so}
+use Rattle.yse_commands.specs.commands.Run.{ExpectedOn}
 use Rattle.named_files.proofs.PassingLemmas.{only_so}
+
+-- the end of a run, after the design with its stimulus
+abbrev pub ready_then : (Machine → Timing → Netlist → Stimulus → List Reading → Outcome → Type 0) → Continuation Prepared
+ready_then End ready = End ready.placed.machine ready.placed.timing ready.placed.net ready.stimulus
+
+-- the stimulus of a run of an image, and its end
+abbrev pub image_then : RunWords → (Image → Timing → Netlist → Stimulus → List Reading → Outcome → Type 0) → Continuation Runnable
+image_then words End run = AfterStimulus words.stimulus run.net (End run.image run.timing run.net)
 
 module _ (names : Option (List ℕ → Bool)) (bytes : Option (List ℕ → List ℕ)) where
   module _ {X : Type 0} (Step : Continuation X → List Reading → Outcome → Type 0) (so : (One Other : Continuation X) → ((x : X) → Implies (One x) (Other x)) → Implies (Step One) (Step Other)) where
@@ -49,16 +61,17 @@ module _ (names : Option (List ℕ → Bool)) (bytes : Option (List ℕ → List
   pub design_stops : (words : RunWords) (End : Netlist → Timing → List Reading → Outcome → Type 0) (old new : FileCounts) (why : Refusal) → Passes names bytes old new (AfterTimed words) (Err why) → Follows names bytes old new (Err why) (AfterNetlist words End)
   design_stops words End = stopped (AfterTimed words) (timed_so words) (λ d. End d.net d.timing)
 
-  pub machine_on : (file : Option (List ℕ)) (Next : Continuation Machine) (machine : Machine) (names-then : Option (List ℕ → Bool)) (bytes-then : Option (List ℕ → List ℕ)) (old mid new : FileCounts) (result : Result Output Refusal) → names-then ≡ names → bytes-then ≡ bytes
-      → Passes names bytes old mid (AfterMachine file) (Ok machine) → Follows names-then bytes-then mid new result (Next machine) → Follows names bytes old new result (AfterMachine file Next)
-  machine_on file Next machine = passed_on (AfterMachine file) (machine_so file) machine Next
-
-  pub machine_stops : (file : Option (List ℕ)) (Next : Continuation Machine) (old new : FileCounts) (why : Refusal) → Passes names bytes old new (AfterMachine file) (Err why) → Follows names bytes old new (Err why) (AfterMachine file Next)
-  machine_stops file = stopped (AfterMachine file) (machine_so file)
-
   pub stimulus_on : (file : List ℕ) (net : Netlist) (Next : Continuation Stimulus) (stimulus : Stimulus) (names-then : Option (List ℕ → Bool)) (bytes-then : Option (List ℕ → List ℕ)) (old mid new : FileCounts) (result : Result Output Refusal) → names-then ≡ names → bytes-then ≡ bytes
       → Passes names bytes old mid (AfterStimulus file net) (Ok stimulus) → Follows names-then bytes-then mid new result (Next stimulus) → Follows names bytes old new result (AfterStimulus file net Next)
   stimulus_on file net Next stimulus = passed_on (AfterStimulus file net) (stimulus_so file net) stimulus Next
 
   pub stimulus_stops : (file : List ℕ) (net : Netlist) (Next : Continuation Stimulus) (old new : FileCounts) (why : Refusal) → Passes names bytes old new (AfterStimulus file net) (Err why) → Follows names bytes old new (Err why) (AfterStimulus file net Next)
   stimulus_stops file net = stopped (AfterStimulus file net) (stimulus_so file net)
+
+  -- the design on its machine, with its stimulus
+  pub ready_on : (words : RunWords) (End : Machine → Timing → Netlist → Stimulus → List Reading → Outcome → Type 0) (ready : Prepared) (names-then : Option (List ℕ → Bool)) (bytes-then : Option (List ℕ → List ℕ)) (old mid new : FileCounts) (result : Result Output Refusal) → names-then ≡ names → bytes-then ≡ bytes
+      → Passes names bytes old mid (AfterReady words) (Ok ready) → Follows names-then bytes-then mid new result (ready_then End ready) → Follows names bytes old new result (AfterMachine words.machine (ExpectedOn words End))
+  ready_on words End ready = passed_on (AfterReady words) (ready_so words) ready (ready_then End)
+
+  pub ready_stops : (words : RunWords) (End : Machine → Timing → Netlist → Stimulus → List Reading → Outcome → Type 0) (old new : FileCounts) (why : Refusal) → Passes names bytes old new (AfterReady words) (Err why) → Follows names bytes old new (Err why) (AfterMachine words.machine (ExpectedOn words End))
+  ready_stops words End = stopped (AfterReady words) (ready_so words) (ready_then End)

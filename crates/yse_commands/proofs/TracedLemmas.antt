@@ -41,11 +41,11 @@ use Rattle.yse_commands.specs.Outputs.{ending_in}
 use Rattle.yse_commands.specs.Visited.{IsImageOfFile, IsMachineOfFile}
 use Rattle.yse_commands.specs.commands.Cover.{CoversIn, ExpectedCover, IsCoverage, WritesCoverage}
 use Rattle.yse_commands.specs.commands.Fault.{AfterListed, ExpectedFault, FaultsIn, IsFaultList, ListsFaults, listed_or_all}
-use Rattle.named_files.specs.Files.{AfterFaultList, AfterLanes, AfterList, AfterMachine, AfterNetlist, AfterStimulus}
+use Rattle.named_files.specs.Files.{AfterFaultList, AfterFit, AfterImage, AfterLanes, AfterList, AfterMachine, AfterMatch, AfterNetlist, AfterStimulus}
 use Rattle.yse_commands.specs.commands.Pack.{AreLaneTraces, ExpectedPack, KeepsLanesOn, PacksIn, PacksOn}
-use Rattle.yse_commands.specs.commands.Exec.{AfterImage, AfterMatch, ExecutesBy, ExpectedExec, OnImage, RunsImage, WritesTraceOf}
+use Rattle.yse_commands.specs.commands.Exec.{ExecutesBy, ExpectedExec, OnImage, RunsImage, WritesTraceOf}
 use Rattle.named_files.specs.Images.{IsAccepted, IsImageFileOf}
-use Rattle.yse_commands.specs.commands.Run.{AfterCells, AfterFit, AfterLoop, WritesTrace, EndsBy, EndsWithin, ExpectedRun, ExpectedOn, ExpectedRefer, KeepsTrace, OnTiming}
+use Rattle.yse_commands.specs.commands.Run.{AfterCells, AfterLoop, WritesTrace, EndsBy, EndsWithin, ExpectedRun, ExpectedOn, ExpectedRefer, KeepsTrace, OnTiming}
 use Rattle.yse_commands.proofs.EndingLemmas.{whole_output}
 use Rattle.yse_commands.proofs.AnswerLemmas.{passes, refuses, refused_once, never_both}
 

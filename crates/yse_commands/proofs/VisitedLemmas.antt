@@ -38,8 +38,8 @@ use Rattle.yse_commands.specs.commands.Run.{EndsWithin, ExpectedOn, ExpectedRun}
 use Rattle.yse_commands.proofs.EndingLemmas.{ended_no_fault}
 use Rattle.yse_commands.proofs.GateLemmas.{all_blocks}
 use Rattle.yse_commands.proofs.TracedLemmas.{reached, reached_image, same_units}
-use Rattle.yse_commands.proofs.WeakerLemmas.{exec_so, on_so}
-use Rattle.named_files.proofs.WeakerLemmas.{machine_so}
+use Rattle.yse_commands.proofs.PassingLemmas.{image_then, ready_then}
+use Rattle.named_files.proofs.WeakerLemmas.{ready_so, runnable_so, stimulus_so}
 
 -- ---- outcomes at which something may be written
 
@@ -147,8 +147,7 @@ module _ {G : Type 0} (p : gate.Ghosts G) (gates gates' : List (Option G)) (name
   expects follows = record {
     readings = follows.readings;
     are = follows.are;
-    expected = machine_so words.machine (ExpectedOn words (EndsTelling p gates gates' (written_by result) pace words)) (ExpectedOn words (EndsWithin (has_limit pace) (order_file pace) words))
-        (on_so words (EndsTelling p gates gates' (written_by result) pace words) (EndsWithin (has_limit pace) (order_file pace) words) (λ machine timing net stimulus readings outcome telling. telling.ends))
+    expected = ready_so words (ready_then (EndsTelling p gates gates' (written_by result) pace words)) (ready_then (EndsWithin (has_limit pace) (order_file pace) words)) (λ ready readings outcome telling. telling.ends)
         follows.readings (outcome_of result) follows.expected;
   }
 
@@ -179,7 +178,9 @@ module _ {G : Type 0} (p : gate.Ghosts G) (gates gates' : List (Option G)) (name
   exec_expects follows = record {
     readings = follows.readings;
     are = follows.are;
-    expected = exec_so words name (ExecTelling p gates gates' (written_by result) words) WritesTraceOf (λ image timing net stimulus readings outcome telling. telling.ends) follows.readings (outcome_of result) follows.expected;
+    expected = runnable_so words name (image_then words (ExecTelling p gates gates' (written_by result) words)) (image_then words WritesTraceOf) (λ run.
+        stimulus_so words.stimulus run.net (ExecTelling p gates gates' (written_by result) words run.image run.timing run.net) (WritesTraceOf run.image run.timing run.net) (λ stimulus readings outcome telling. telling.ends))
+        follows.readings (outcome_of result) follows.expected;
   }
 
   exec_visits : Follows names bytes old new result Executing → IfOk result (λ output. ending_in output ≡ None) → MayWrite (outcome_of result).status → AreVisitsOfImage p bytes gates gates' words name (written_by result)

@@ -1,22 +1,17 @@
 //! `plan` and `compile`: what a netlist is laid out as on the machine, after the same checks.
 
 ghost use Rattle.std.specs.Prelude.{◌≡◌, IfOk};
-ghost use Rattle.machine_text.specs.Machines.{IsValid as IsValidMachine};
-ghost use Rattle.net_defs.specs.Valid.{IsValid};
 ghost use Rattle.cmd_words.specs.Forms.{IsRunInRange};
-ghost use Rattle.yse_compile.specs.Chosen.{IsChosen};
 ghost use Rattle.yse_commands.specs.Outputs.{CanWrite};
 ghost use Rattle.yse_commands.specs.Refusals.{Follows};
-ghost use Rattle.yse_commands.specs.commands.Layout.{ExpectedLayout, ExpectedLayoutOn, IsSheetOf};
+ghost use Rattle.yse_commands.specs.commands.Layout.{ExpectedLayout, IsSheetOf};
 
 use crate::compile::image_text_of;
 use crate::output::Output;
 use crate::plan::report_of;
 use cmd_words::RunWords;
 use edge_io::Files;
-use machine_text::Machine;
-use named_files::{Planned, Timed, design_from, designed, machine_from};
-use net_defs::{HomeChoice, Timing};
+use named_files::{Planned, planned_on_machine};
 use refusal_lines::Refusal;
 use seen_list::{Memory, Text};
 use std::alloc::Global;
@@ -44,71 +39,22 @@ pub fn lay_out<'a, F: Files>(
         result (ExpectedLayout sheet words.now) }
     ensures writable { IfOk result CanWrite }
 {
-    match machine_from(alloc, files, &words.machine) {
-        Ok(machine) => {
-            let result = lay_out_on(alloc, files, words, &machine, sheet);
-            drop(machine);
-            result
-        }
-        Err(no) => Err(no),
-    }
-}
-
-/// The same on a machine.
-fn lay_out_on<'a, F: Files>(
-    alloc: Global,
-    files: &mut F,
-    words: &'a RunWords,
-    machine: &Machine,
-    sheet: Sheet,
-) -> Result<Output, Refusal<'a>>
-    requires range { IsRunInRange words.now }
-    requires machine { IsValidMachine machine.now }
-    ensures same_names { F.names files.new ≡ F.names files.old }
-    ensures same_bytes { F.bytes files.new ≡ F.bytes files.old }
-    ensures expected { Follows (F.names files.old) (F.bytes files.old) (F.counts files.old) (F.counts files.new)
-        result (ExpectedLayoutOn sheet words.now machine.now) }
-    ensures writable { IfOk result CanWrite }
-{
-    let Timed { net, timing } = match design_from(alloc, files, words) {
-        Ok(timed) => timed,
+    let planned = match planned_on_machine(alloc, files, words) {
+        Ok(planned) => planned,
         Err(no) => return Err(no),
     };
-    let planned = match designed(alloc, net, machine, &timing, words.homes) {
-        Ok(planned) => planned,
-        Err(no) => {
-            drop(timing);
-            return Err(no);
-        }
-    };
-    let text = sheet_of(alloc, planned, machine, &timing, words.homes, sheet);
-    drop(timing);
-    match text {
+    match sheet_of(alloc, planned, sheet) {
         Ok(text) => Ok(Output::Text(text)),
         Err(Memory) => Err(Refusal::Memory),
     }
 }
 
 /// What is asked of a design.
-fn sheet_of(
-    alloc: Global,
-    planned: Planned,
-    machine: &Machine,
-    timing: &Timing,
-    choice: HomeChoice,
-    sheet: Sheet,
-) -> Result<Text, Memory>
-    requires valid { IsValid planned.net }
-    requires machine { IsValidMachine machine.now }
-    requires chosen { IsChosen planned.net machine.now timing.now choice planned.chosen }
-    ensures { IfOk result (IsSheetOf sheet choice planned.net machine.now timing.now) }
+fn sheet_of(alloc: Global, planned: Planned, sheet: Sheet) -> Result<Text, Memory>
+    ensures { IfOk result (IsSheetOf sheet planned.homes planned.net planned.machine planned.timing) }
 {
     match sheet {
-        Sheet::Report => {
-            let report = report_of(alloc, &planned, machine, timing, choice);
-            drop(planned);
-            report
-        }
-        Sheet::Image => image_text_of(alloc, planned, machine, timing, choice),
+        Sheet::Report => report_of(alloc, &planned),
+        Sheet::Image => image_text_of(alloc, planned),
     }
 }

@@ -1,14 +1,11 @@
 //! The report of a plan, and what is told of better homes.
 
 ghost use Rattle.std.specs.Prelude.{◌≡◌, ◌++◌, IfOk, OnOk};
-ghost use Rattle.net_defs.specs.Valid.{IsValid};
-ghost use Rattle.yse_compile.specs.Chosen.{IsChosen};
 ghost use Rattle.yse_commands.specs.commands.Plan.{IsReportOf, crossings_line, homes_word, told_of_homes};
 
 use itoa::Buffer;
-use machine_text::Machine;
 use named_files::Planned;
-use net_defs::{HomeChoice, Timing};
+use net_defs::HomeChoice;
 use plan_defs::law::items_are_well_formed;
 use plan_text::report;
 use seen_list::{Memory, Text};
@@ -16,16 +13,8 @@ use std::alloc::Global;
 use yse_compile::Chosen;
 
 /// The report of a design, with a line on the crossings where better homes were asked for.
-pub fn report_of(
-    alloc: Global,
-    planned: &Planned,
-    _machine: &Machine,
-    _timing: &Timing,
-    choice: HomeChoice,
-) -> Result<Text, Memory>
-    requires valid { IsValid planned.now.net }
-    requires chosen { IsChosen planned.now.net _machine.now _timing.now choice planned.now.chosen }
-    ensures { IfOk result (IsReportOf choice planned.now.net _machine.now _timing.now) }
+pub fn report_of(alloc: Global, planned: &Planned) -> Result<Text, Memory>
+    ensures { IfOk result (IsReportOf planned.now.homes planned.now.net planned.now.machine planned.now.timing) }
 {
     items_are_well_formed();
     let compiled = &planned.chosen.compiled;
@@ -37,7 +26,7 @@ pub fn report_of(
         &compiled.plan,
         &compiled.switch,
     )?;
-    push_homes(&mut text, choice, &planned.chosen)?;
+    push_homes(&mut text, planned.homes, &planned.chosen)?;
     Ok(text)
 }
 

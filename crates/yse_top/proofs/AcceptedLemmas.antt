@@ -41,10 +41,11 @@ use Rattle.refusal_lines.specs.Lines.{match_line}
 use Rattle.named_files.specs.Checks.{After}
 use Rattle.named_files.specs.Outcome.{Outcome, refusal, out_of_memory}
 use Rattle.named_files.specs.Readings.{Reading}
-use Rattle.yse_commands.specs.commands.Exec.{AfterImage, AfterMatch, IsTaken, RunsImage, WritesTraceOf}
+use Rattle.yse_commands.specs.commands.Exec.{IsTaken, RunsImage, WritesTraceOf}
 use Rattle.named_files.specs.Images.{IsAccepted, IsImageFileOf}
 use Rattle.yse_top.proofs.ProperLemmas.{IsCheck, IsOfText, alike, short_passes}
 use Rattle.yse_commands.proofs.TracedLemmas.{whole_text}
+use Rattle.named_files.specs.Files.{AfterImage, AfterMatch}
 
 -- ---- what holds of an item of one list holds of that item of the other
 

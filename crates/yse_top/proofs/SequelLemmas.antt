@@ -29,15 +29,15 @@ use Rattle.image_defs.specs.declared.file.Claims.{Claims}
 use Rattle.refusal_lines.specs.declared.status.Status.{Status}
 use Rattle.refusal_lines.specs.declared.status.Status.TheVariants as status
 use Rattle.named_files.specs.Checks.{After, AfterRead, AfterFile, Ends, HasNoLoop, HasRoom, IsListOf, IsMachineOf, IsNetlistOf, IsStimulusOf, Writes, listing, read_fault, text_of}
-use Rattle.named_files.specs.Files.{AfterList, AfterMachine, AfterNetlist, AfterStimulus}
+use Rattle.named_files.specs.Files.{AfterFit, AfterImage, AfterList, AfterMachine, AfterMatch, AfterNetlist, AfterStimulus}
 use Rattle.named_files.specs.Images.{IsImageFileOf}
 use Rattle.named_files.specs.Outcome.{Outcome, done, out_of_memory}
 use Rattle.named_files.specs.Readings.{Reading}
 use Rattle.yse_commands.specs.declared.layout.Sheet.TheVariants as sheet
 use Rattle.yse_commands.specs.commands.Compile.{IsImageTextOf}
-use Rattle.yse_commands.specs.commands.Exec.{AfterImage, AfterMatch, ExpectedExec, IsTaken, OnImage, RunsImage, WritesTraceOf}
+use Rattle.yse_commands.specs.commands.Exec.{ExpectedExec, IsTaken, OnImage, RunsImage, WritesTraceOf}
 use Rattle.yse_commands.specs.commands.Layout.{ExpectedLayout, ExpectedLayoutOn, IsSheetOf, LaysOut}
-use Rattle.yse_commands.specs.commands.Run.{AfterFit, EndsBy, EndsWithin, ExpectedOn, ExpectedRun, OnTiming, WritesTrace}
+use Rattle.yse_commands.specs.commands.Run.{EndsBy, EndsWithin, ExpectedOn, ExpectedRun, OnTiming, WritesTrace}
 use Rattle.yse_commands.proofs.AnswerLemmas.{never_both, passed_once}
 use Rattle.yse_top.specs.Sequel.{AreHeld, AreOfOneDesign, Leaves}
 use Rattle.yse_top.proofs.CheckLemmas.{trace_only}

@@ -10,22 +10,11 @@ use Rattle.image_defs.specs.declared.image.Image.{Image}
 use Rattle.image_file.specs.Files.{image_text}
 use Rattle.image_defs.specs.declared.file.ImageFile.{ImageFile}
 use Rattle.cmd_words.specs.declared.command.RunWords.{RunWords}
-use Rattle.named_files.specs.Checks.{After, AfterFile, HasNoLoop}
+use Rattle.named_files.specs.Checks.{After, HasNoLoop}
 use Rattle.named_files.specs.Outcome.{Outcome, out_of_memory}
 use Rattle.named_files.specs.Readings.{Reading}
-use Rattle.named_files.specs.Files.{AfterNetlist, AfterStimulus}
+use Rattle.named_files.specs.Files.{AfterImage, AfterNetlist, AfterStimulus}
 use Rattle.yse_commands.specs.commands.Run.{WritesTrace}
-use Rattle.named_files.specs.Images.{IsAccepted, IsImageFileOf}
-
--- the netlist accepts the image, whose claims are of no use from then on
-abbrev pub AfterMatch : Netlist → Timing → ImageFile → (Image → List Reading → Outcome → Type 0) → List Reading → Outcome → Type 0
-AfterMatch net timing file Next = After (IsAccepted net timing file) (λ accepted. Next file.image)
-
--- the image file, its text, and whether the netlist accepts the image
-unfoldable pub AfterImage : List ℕ → Netlist → Timing → (Image → List Reading → Outcome → Type 0) → List Reading → Outcome → Type 0
-AfterImage name net timing Next =
-    AfterFile name (λ text.
-    After (IsImageFileOf text) (λ file. AfterMatch net timing file Next))
 
 -- the stimulus, and then this end of the run of an image
 abbrev pub RunsImage : RunWords → (Image → Timing → Netlist → Stimulus → List Reading → Outcome → Type 0) → Netlist → Timing → Image → List Reading → Outcome → Type 0

@@ -12,8 +12,7 @@ use Rattle.named_files.specs.Outcome.{Outcome}
 use Rattle.named_files.specs.Readings.{Reading}
 use Rattle.yse_commands.specs.commands.Compile.{IsImageTextOf}
 use Rattle.yse_commands.specs.commands.Plan.{IsReportOf}
-use Rattle.yse_commands.specs.commands.Run.{AfterFit}
-use Rattle.named_files.specs.Files.{AfterMachine, AfterNetlist}
+use Rattle.named_files.specs.Files.{AfterFit, AfterMachine, AfterNetlist}
 
 -- the output is what is asked of the design
 abbrev pub IsSheetOf : Sheet → HomeChoice → Netlist → Machine → Timing → List ℕ → Type 0

@@ -12,8 +12,7 @@ use Rattle.cmd_words.specs.declared.command.RunWords.{RunWords}
 use Rattle.named_files.specs.Checks.{After, Ends, Writes, HasFewBits, HasFewLaneCells}
 use Rattle.named_files.specs.Outcome.{Outcome}
 use Rattle.named_files.specs.Readings.{Reading}
-use Rattle.yse_commands.specs.commands.Run.{AfterFit}
-use Rattle.named_files.specs.Files.{AfterMachine, AfterNetlist, AfterLanes}
+use Rattle.named_files.specs.Files.{AfterFit, AfterLanes, AfterMachine, AfterNetlist}
 
 -- for each lane after the first n the line with its number, and then the trace of the lane's own stimulus
 abbrev pub AreTracesAfter : Netlist → Timing → ℕ → List Stimulus → List ℕ → Type 0

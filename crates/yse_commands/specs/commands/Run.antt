@@ -3,28 +3,21 @@
 -- all cycles, and have a limit on them; a run has none.
 use Rattle.std.specs.Prelude.{Bool, true, false, List, ℕ, Option, Some, None}
 use Rattle.machine_text.specs.declared.machine.Machine.{Machine}
-use Rattle.net_defs.specs.declared.homes.HomeChoice.{HomeChoice}
 use Rattle.net_defs.specs.declared.netlist.Netlist.{Netlist}
 use Rattle.net_defs.specs.declared.stimulus.Stimulus.{Stimulus}
 use Rattle.net_defs.specs.declared.timing.Timing.{Timing}
 use Rattle.net_defs.specs.Trace.{IsTrace}
 use Rattle.cmd_words.specs.declared.command.RunWords.{RunWords}
-use Rattle.named_files.specs.Checks.{After, AfterFile, Ends, Writes, HasNoLoop, HasRoom, HasFewCells, IsOrderOf}
+use Rattle.named_files.specs.Checks.{After, AfterFile, Ends, Writes, HasNoLoop, HasFewCells, IsOrderOf}
 use Rattle.yse_commands.specs.Orders.{EndsInOrder}
 use Rattle.named_files.specs.Outcome.{Outcome}
 use Rattle.named_files.specs.Readings.{Reading}
-use Rattle.named_files.specs.Files.{AfterMachine, AfterNetlist, AfterStimulus}
+use Rattle.named_files.specs.Files.{AfterFit, AfterMachine, AfterNetlist, AfterStimulus}
 
 -- the cells, where they are limited
 abbrev pub AfterCells : Bool → Netlist → Stimulus → (List Reading → Outcome → Type 0) → List Reading → Outcome → Type 0
 AfterCells false net stimulus Next = Next
 AfterCells true net stimulus Next = After (HasFewCells net stimulus) (λ few. Next)
-
--- the loop, and whether the design fits the machine by the choice of homes
-abbrev pub AfterFit : HomeChoice → Netlist → Machine → Timing → (List Reading → Outcome → Type 0) → List Reading → Outcome → Type 0
-AfterFit choice net machine timing Next =
-    After (HasNoLoop net timing) (λ passed.
-    After (HasRoom choice net machine timing) (λ fits. Next))
 
 -- the trace is written
 abbrev pub WritesTrace : Netlist → Timing → Stimulus → List Reading → Outcome → Type 0

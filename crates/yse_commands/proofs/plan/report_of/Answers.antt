@@ -2,19 +2,22 @@ use Rattle.yse_commands.proofs.plan.report_of.Goals as goal
 
 pub report-requires-clause-nodes : goal.report-requires-clause-nodes
 report-requires-clause-nodes c =
-    let chosen = c.args.planned.now.chosen in
-    c.items_are_well_formed.ensures c.args.planned.now.net c.args._timing.now chosen.compiled.nodes c.requires.valid c.requires.chosen.design.items
+    let planned = c.planned.inside in
+    c.items_are_well_formed.ensures planned.net planned.timing planned.chosen.compiled.nodes c.planned.invariant.valid c.planned.invariant.is.design.items
 
 pub returns : goal.returns
-returns c = record {
-  chosen = c.args.planned.now.chosen;
-  items = c.requires.chosen.design.items;
-  plain = c.requires.chosen.plain;
-  picked = c.requires.chosen.picked;
-  used = c.requires.chosen.used;
-  first_fit = c.requires.chosen.design.first_fit;
-  fits = c.requires.chosen.design.fits;
-  report = c.in_ok-text.text;
-  is = c.in_ok-text.ensures;
-  told = c.in_ok-push_homes.ensures;
-}
+returns c =
+    let planned = c.planned.inside in
+    let is = c.planned.invariant.is in
+    rw (← c.planned.view_is) (record {
+      chosen = planned.chosen;
+      items = is.design.items;
+      plain = is.plain;
+      picked = is.picked;
+      used = is.used;
+      first_fit = is.design.first_fit;
+      fits = is.design.fits;
+      report = c.in_ok-text.text;
+      is = c.in_ok-text.ensures;
+      told = c.in_ok-push_homes.ensures;
+    })

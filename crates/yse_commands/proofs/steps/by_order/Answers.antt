@@ -3,20 +3,32 @@ use Rattle.yse_commands.proofs.steps.by_order.Goals as goal
 
 pub returns-in-None-clause-ended : goal.returns-in-None-clause-ended
 returns-in-None-clause-ended c =
-    order_done c.args.order.now c.args.words.now.banks c.args.words.now.homes c.args.built.net c.args._machine.now c.args.timing.now c.args.stimulus.now c.args.built.image c.requires.image c.requires.made
-    _ _ c.in-Ok-made.ensures c.in-Ok.line c.in-None.is
+    let design = c.design.inside in
+    let run = design.run in
+    let made = c.design.invariant in
+    rw (← c.ready.view_is, ← c.design.view_is) (order_done c.args.order.now c.args.words.now.banks design.homes run.net design.machine run.timing c.ready.inside.stimulus run.image made.runnable.image made.made
+    _ _ c.in_ok-rows.ensures c.in_ok-line.line c.in-None.is)
 
 pub returns-in-None-clause-writable : goal.returns-in-None-clause-writable
 returns-in-None-clause-writable c =
-    order_prints c.args.order.now c.args.words.now.banks c.args.words.now.homes c.args.built.net c.args._machine.now c.args.timing.now c.args.stimulus.now c.args.built.image c.requires.image c.requires.made
-    _ _ c.in-Ok-made.ensures c.in-Ok.line c.requires.stimulus c.in-Ok.ensures.room
+    let design = c.design.inside in
+    let run = design.run in
+    let made = c.design.invariant in
+    order_prints c.args.order.now c.args.words.now.banks design.homes run.net design.machine run.timing c.ready.inside.stimulus run.image made.runnable.image made.made
+    _ _ c.in_ok-rows.ensures c.in_ok-line.line c.ready.invariant.valid c.in_ok-line.ensures.room
 
-pub returns-in-Some-clause-ended : goal.returns-in-Some-clause-ended
-returns-in-Some-clause-ended c =
-    order_unfinished c.args.order.now c.args.words.now.banks c.args.words.now.homes c.args.built.net c.args._machine.now c.args.timing.now c.args.stimulus.now c.args.built.image c.requires.image c.requires.made
-    _ _ c.in-Ok-made.ensures c.in-Ok.line _ c.in-Some.is
+pub returns-clause-ended : goal.returns-clause-ended
+returns-clause-ended c =
+    let design = c.design.inside in
+    let run = design.run in
+    let made = c.design.invariant in
+    rw (← c.ready.view_is, ← c.design.view_is) (order_unfinished c.args.order.now c.args.words.now.banks design.homes run.net design.machine run.timing c.ready.inside.stimulus run.image made.runnable.image made.made
+    _ _ c.in_ok-rows.ensures c.in_ok-line.line _ _ c.cycles-cycles.ensures c.in-Some.is)
 
-pub returns-in-Some-clause-writable : goal.returns-in-Some-clause-writable
-returns-in-Some-clause-writable c =
-    order_prints c.args.order.now c.args.words.now.banks c.args.words.now.homes c.args.built.net c.args._machine.now c.args.timing.now c.args.stimulus.now c.args.built.image c.requires.image c.requires.made
-    _ _ c.in-Ok-made.ensures c.in-Ok.line c.requires.stimulus c.in-Ok.ensures.room
+pub returns-clause-writable : goal.returns-clause-writable
+returns-clause-writable c =
+    let design = c.design.inside in
+    let run = design.run in
+    let made = c.design.invariant in
+    order_prints c.args.order.now c.args.words.now.banks design.homes run.net design.machine run.timing c.ready.inside.stimulus run.image made.runnable.image made.made
+    _ _ c.in_ok-rows.ensures c.in_ok-line.line c.ready.invariant.valid c.in_ok-line.ensures.room

@@ -4,10 +4,9 @@ use Rattle.yse_commands.proofs.ShownLemmas.{run_trace}
 use Rattle.yse_commands.proofs.steps.by_workers.Goals as goal
 
 pub returns-in-Ok-clause-printed : goal.returns-in-Ok-clause-printed
-returns-in-Ok-clause-printed g c =
-    run_trace c.args.built.net c.args._timing.now c.args.stimulus c.args.built.image c.requires.image
+returns-in-Ok-clause-printed g c = run_trace c.args.run.net c.args.run.timing c.args.stimulus c.args.run.image c.requires.run.image
 
 pub returns-in-Ok-clause-visits : goal.returns-in-Ok-clause-visits
 returns-in-Ok-clause-visits g c =
-    image_visits g.G.Gate c.args.built.net c.args._timing.now c.args.stimulus c.args.built.image c.requires.image
+    image_visits g.G.Gate c.args.run.net c.args.run.timing c.args.stimulus c.args.run.image c.requires.run.image
     c.args.words.now.workers c.args.gates.now _ _ c.in-Ok.ensures.visits

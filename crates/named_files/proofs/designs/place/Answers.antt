@@ -1,0 +1,56 @@
+-- The netlist, and whether it fits the machine.
+use Rattle.std.proofs.Common.{List, refl, subst, inl, inr}
+use Rattle.cmd_words.specs.declared.command.RunWords.{RunWords}
+use Rattle.machine_text.specs.declared.machine.Machine.{Machine}
+use Rattle.yse_compile.specs.Compiled.{IsOverfull}
+use Rattle.named_files.specs.declared.reading.Timed.{Timed}
+use Rattle.named_files.specs.Checks.{After, HasNoLoop, HasRoom}
+use Rattle.named_files.specs.Designs.{Placed}
+use Rattle.named_files.specs.Outcome.{Outcome}
+use Rattle.named_files.specs.Passing.{AfterTimed, Continuation, placed}
+use Rattle.named_files.specs.Readings.{Reading}
+use Rattle.named_files.proofs.PassingLemmas.{both_pass, check_passes, check_stops, first_stops, value_passes}
+use Rattle.named_files.proofs.WeakerLemmas.{timed_so}
+use Rattle.named_files.proofs.designs.place.Goals as goal
+
+-- what comes after the design, after the check of its size, and after that of its loops
+abbrev design_then : RunWords → Machine → Timed → Continuation Placed → List Reading → Outcome → Type 0
+design_then words machine timed Next = Next (placed words machine timed.net timed.timing)
+
+abbrev room_then : RunWords → Machine → Timed → Continuation Placed → List Reading → Outcome → Type 0
+room_then words machine timed Next = After (HasRoom words.homes timed.net machine timed.timing) (λ fits. design_then words machine timed Next)
+
+abbrev fit_then : RunWords → Machine → Timed → Continuation Placed → List Reading → Outcome → Type 0
+fit_then words machine timed Next = After (HasNoLoop timed.net timed.timing) (λ passed. room_then words machine timed Next)
+
+pub returns-in-Err-clause-step : goal.returns-in-Err-clause-step
+returns-in-Err-clause-step g c =
+    let words = c.args.words.now in
+    first_stops _ _ (AfterTimed words) (timed_so words) (fit_then words c.args.machine) _ _ _ c.in-Err.ensures.step
+
+pub returns-clause-step : goal.returns-clause-step
+returns-clause-step g c =
+    let words = c.args.words.now in
+    let machine = c.args.machine in
+    let timed = c.in-Ok.timed in
+    let loops = HasNoLoop timed.net timed.timing in
+    let room = HasRoom words.homes timed.net machine timed.timing in
+    let no = c.in-Err-compile_with in
+    both_pass _ _ (AfterTimed words) (timed_so words) (fit_then words machine) timed _ _ _ _ _ _ c.in-Ok.ensures.same_names c.in-Ok.ensures.same_bytes c.in-Ok.ensures.step
+    (elim (c.of_design.ensures words.homes machine timed.timing no.ensures.refused (λ over fits. subst IsOverfull (no.ensures.fits fits) over)) [
+      | inl looped ↦ check_stops _ _ loops (λ passed. room_then words machine timed) _ _ looped
+      | inr (acyclic, crowded) ↦ check_passes _ _ loops (λ passed. room_then words machine timed) tt _ _ _ acyclic (check_stops _ _ room (λ fits. design_then words machine timed) _ _ crowded)
+    ])
+
+pub returns-in-Ok-compile_with-clause-step : goal.returns-in-Ok-compile_with-clause-step
+returns-in-Ok-compile_with-clause-step g c =
+    let words = c.args.words.now in
+    let machine = c.args.machine in
+    let timed = c.in-Ok.timed in
+    let fit = c.in-Ok-compile_with.ensures in
+    let loops = HasNoLoop timed.net timed.timing in
+    let room = HasRoom words.homes timed.net machine timed.timing in
+    both_pass _ _ (AfterTimed words) (timed_so words) (fit_then words machine) timed _ _ _ _ _ _ c.in-Ok.ensures.same_names c.in-Ok.ensures.same_bytes c.in-Ok.ensures.step
+    (check_passes _ _ loops (λ passed. room_then words machine timed) tt _ _ _ fit.chosen.design.acyclic
+    (check_passes _ _ room (λ fits. design_then words machine timed) tt _ _ _ fit.fitted
+    (value_passes _ _ (design_then words machine timed) _ _ (λ rest outcome. (refl, refl, refl)))))

@@ -1,0 +1,3 @@
+mod EndLemmas
+mod RowLemmas
+mod StepLemmas

@@ -1,6 +1,0 @@
-use Rattle.std.specs.Prelude.{replicate}
-use Rattle.yse_commands.specs.code.Stepped.{HasStepped}
-use Rattle.yse_commands.proofs.steps.repeat_step.Given as goal
-
-abbrev pub invariant-steps : goal.invariant-steps
-invariant-steps l = HasStepped l.fn.core l.core (replicate l._step l.port)

@@ -1,8 +1,0 @@
-use Rattle.std.specs.Prelude.{take}
-use Rattle.std.specs.List.{flat_map}
-use Rattle.yse_commands.specs.code.Stepped.{HasStepped}
-use Rattle.yse_commands.proofs.StepLemmas.{line_steps}
-use Rattle.yse_commands.proofs.steps.step_lines.Given as goal
-
-abbrev pub invariant-lines : goal.invariant-lines
-invariant-lines l = HasStepped l.fn.core l.core (flat_map line_steps (take l.l l.lines))
