@@ -1,6 +1,6 @@
-use Rattle.std.proofs.Common.{ap, arith, drop, length, subst, sym, ◌%◌, ◌-◌, ◌<◌, ◌∙◌}
+use Rattle.std.proofs.Common.{ap, arith, drop, length, refl, subst, sym, ◌%◌, ◌-◌, ◌<◌, ◌∙◌}
 use Rattle.std.proofs.lemmas.List.{take_at}
-use Rattle.machine_run.proofs.DealtLemmas.{more_dealt, passes_less}
+use Rattle.machine_run.proofs.DealtLemmas.{more_dealt, none_dealt, passes_less}
 use Rattle.machine_run.specs.Dealt.{AreDealtFrom}
 use Rattle.machine_run.specs.code.Dealt.{HasGained}
 use Rattle.machine_run.proofs.deal.workers_of.Goals as goal
@@ -26,3 +26,33 @@ passes-preserved g c =
       dealt = subst (AreDealtFrom g.T.Seat.Stepper.port (s.fits c.args.seats.now) c.args.workers n (n - 1) (length c.pop.new.self))
           (sym (take_at c.give_to.new.crew (drop (length c.give_to.new.crew) c.passes.crew) (length c.passes.crew) (omega (arith, dealt.count, so_far.count)))) dealt;
     }
+
+pub passes-init : goal.passes-init
+passes-init g c =
+    let s = g.T.Seats in
+    let n = s.ports c.args.seats.now in
+    record {
+      passes = record { long = refl; each = c.requires.passes.each };
+      few = omega (arith, c.requires.passes.long);
+      dealt = none_dealt g.T.Seat.Stepper.port (s.fits c.args.seats.now) c.args.workers n (n - 1) (omega (arith, c.requires.some_ports)) (length c.args.passes) c.in_ok-crew.crew c.in_ok-crew.ensures (omega (arith, c.requires.passes.long));
+    }
+
+pub passes-smaller : goal.passes-smaller
+passes-smaller g c =
+    let less = passes_less g.T.Seats.pass_port (g.T.Seats.may c.args.seats.now) _ _ _ c.in-Some.pass c.passes.invariant.passes c.in-Some.ensures.last in
+    omega (arith, less.0)
+
+pub overflow_cast-port : goal.overflow_cast-port
+overflow_cast-port g c = omega (arith, c.port.type_inv)
+
+pub worker_of-worker-requires : goal.worker_of-worker-requires
+worker_of-worker-requires g c = omega (arith, c.requires.some, c.len.ensures, c.passes.invariant.dealt.count)
+
+pub give_to-requires : goal.give_to-requires
+give_to-requires g c = omega (arith, c.worker_of-worker.ensures.within, c.len.ensures, ap length c.as_mut_slice.ensures.value)
+
+pub returns : goal.returns
+returns g c =
+    let s = g.T.Seats in
+    let n = s.ports c.args.seats.now in
+    subst (λ m. AreDealtFrom g.T.Seat.Stepper.port (s.fits c.args.seats.now) c.args.workers n (n - 1) m c.passes.crew) (ap length (c.in_default.ensures.none.0 refl)) c.passes.invariant.dealt
