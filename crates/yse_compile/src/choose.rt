@@ -6,6 +6,9 @@ ghost use Rattle.machine_text.specs.Machines.{IsValid as IsValidMachine};
 ghost use Rattle.net_defs.specs.declared.homes.HomeChoice.TheVariants.{Plain, Better};
 ghost use Rattle.net_defs.specs.declared.stimulus.Stimulus.{Stimulus};
 ghost use Rattle.net_defs.specs.Valid.{IsValid, IsValidTiming};
+ghost use Rattle.node_defs.specs.WellFormed.{IsWellFormed};
+ghost use Rattle.plan_defs.specs.Homes.{AreHomes};
+ghost use Rattle.plan_defs.specs.Picks.{ArePicked};
 ghost use Rattle.plan_defs.specs.Slots.{IsFirstFitPlan};
 ghost use Rattle.plan_defs.specs.Tables.{Fits};
 ghost use Rattle.yse_compile.specs.Chosen.{FitsBy, FitsEither, HomesFit, IsChosen};
@@ -86,7 +89,7 @@ fn at_plain(
     ensures fits { DesignFits net.now machine.now timing.now → IfErr result (λ refusal. refusal ≡ no.Memory) }
     ensures fitted { OnOk result (DesignFits net.now machine.now timing.now) }
 {
-    let count = match count_of(alloc, net, machine, timing, &housed) {
+    let count = match count_of(alloc, &housed) {
         Ok(count) => count,
         Err(_) => {
             drop(housed);
@@ -105,14 +108,9 @@ fn at_plain(
 }
 
 /// The crossings of plain homes.
-fn count_of(
-    alloc: Global,
-    _net: &Netlist,
-    _machine: &Machine,
-    _timing: &Timing,
-    housed: &Housed,
-) -> Result<u64, Memory>
-    requires { AreAtHome _net.now _machine.now _timing.now housed.now }
+fn count_of(alloc: Global, housed: &Housed) -> Result<u64, Memory>
+    requires formed { IsWellFormed housed.now.nodes }
+    requires homes { AreHomes housed.now.nodes housed.now.homes }
     ensures { IfOk result (λ count. count ≡ crossings housed.now.nodes housed.now.homes) }
 {
     crossings_are_readers();
@@ -137,7 +135,7 @@ fn at_better(
     ensures fits { FitsEither net.now machine.now timing.now → IfErr result (λ refusal. refusal ≡ no.Memory) }
     ensures fitted { OnOk result (FitsEither net.now machine.now timing.now) }
 {
-    let improved = match better_homes(alloc, net, machine, timing, &housed) {
+    let improved = match better_homes(alloc, machine, &housed) {
         Ok(improved) => improved,
         Err(_) => {
             drop(housed);
@@ -156,14 +154,10 @@ fn at_better(
 }
 
 /// Better homes, from the plain ones.
-fn better_homes(
-    alloc: Global,
-    _net: &Netlist,
-    machine: &Machine,
-    _timing: &Timing,
-    housed: &Housed,
-) -> Result<Improved, Memory>
-    requires { AreAtHome _net.now machine.now _timing.now housed.now }
+fn better_homes(alloc: Global, machine: &Machine, housed: &Housed) -> Result<Improved, Memory>
+    requires formed { IsWellFormed housed.now.nodes }
+    requires homes { AreHomes housed.now.nodes housed.now.homes }
+    requires picked { ArePicked housed.now.nodes machine.now housed.now.homes }
     ensures { IfOk result (AreImproved machine.now housed.now) }
 {
     better(alloc, &housed.nodes, &housed.homes, machine)
@@ -196,7 +190,7 @@ fn use_better(
         nodes: housed.nodes,
         homes: improved.homes,
     };
-    match routed(alloc, net, machine, timing, rehoused, plan) {
+    match routed(alloc, net, timing, rehoused, plan) {
         Ok(compiled) => Ok(Chosen {
             compiled,
             before: improved.before,

@@ -3,7 +3,10 @@
 ghost use Rattle.std.specs.Prelude.{◌≡◌, ◌≤◌, List as Items, IfOk, IfErr, IfSome, IsNone, OnOk};
 ghost use Rattle.image_build.specs.Built.{GivesItems, IsBuilt};
 ghost use Rattle.limits.specs.declared.TheConstants.{MAX_SLOTS};
+ghost use Rattle.machine_text.specs.declared.machine.Machine.{Machine};
 ghost use Rattle.machine_text.specs.Machines.{IsValid as IsValidMachine};
+ghost use Rattle.net_defs.specs.declared.netlist.Netlist.{Netlist};
+ghost use Rattle.net_defs.specs.declared.timing.Timing.{Timing};
 ghost use Rattle.net_defs.specs.declared.stimulus.Stimulus.{Stimulus};
 ghost use Rattle.net_defs.specs.Steps.{State};
 ghost use Rattle.net_defs.specs.Valid.{IsValid, IsValidTiming};
@@ -64,11 +67,11 @@ pub(crate) fn at_home(
     ensures either { FitsEither net.now machine.now timing.now → IfErr result (λ refusal. refusal ≡ no.Memory) }
 {
     items_are_well_formed();
-    let nodes = match items_of(alloc, net, machine, timing) {
+    let nodes = match items_of(alloc, net, timing) {
         Ok(nodes) => nodes,
         Err(refusal) => return Err(refusal),
     };
-    match homes_of(alloc, net, machine, timing, &nodes) {
+    match homes_of(alloc, machine, &nodes) {
         Ok(homes) => Ok(Housed { nodes, homes }),
         Err(refusal) => {
             drop(nodes);
@@ -78,18 +81,13 @@ pub(crate) fn at_home(
 }
 
 /// The items of the netlist.
-fn items_of(
-    alloc: Global,
-    net: &Netlist,
-    _machine: &Machine,
-    timing: &Timing,
-) -> Result<NodeNet, CompNo>
+fn items_of(alloc: Global, net: &Netlist, timing: &Timing) -> Result<NodeNet, CompNo>
     requires net { IsValid net.now }
     requires timing { IsValidTiming timing.now }
     ensures items { IfOk result (AreItems net.now timing.now) }
     ensures acyclic { OnOk result (IsAcyclic net.now timing.now) }
-    ensures refused { IfErr result (IsRight net.now _machine.now timing.now) }
-    ensures either { FitsEither net.now _machine.now timing.now → IfErr result (λ refusal. refusal ≡ no.Memory) }
+    ensures refused { IfErr result (λ no. (machine : Machine) → IsRight net.now machine timing.now no) }
+    ensures either { (machine : Machine) → FitsEither net.now machine timing.now → IfErr result (λ refusal. refusal ≡ no.Memory) }
 {
     match rank(alloc, net, timing) {
         Ok(ranks) => match map_nodes(alloc, net, &ranks, timing) {
@@ -102,21 +100,15 @@ fn items_of(
 }
 
 /// The plain homes of the items.
-pub(crate) fn homes_of(
-    alloc: Global,
-    _net: &Netlist,
-    machine: &Machine,
-    _timing: &Timing,
-    nodes: &NodeNet,
-) -> Result<Homes, CompNo>
+pub(crate) fn homes_of(alloc: Global, machine: &Machine, nodes: &NodeNet) -> Result<Homes, CompNo>
     requires nodes { IsWellFormed nodes.now }
     requires machine { IsValidMachine machine.now }
-    requires acyclic { IsAcyclic _net.now _timing.now }
-    requires items { AreItems _net.now _timing.now nodes.now }
     ensures picked { IfOk result (ArePicked nodes.now machine.now) }
     ensures homes { IfOk result (AreHomes nodes.now) }
-    ensures refused { IfErr result (IsRight _net.now machine.now _timing.now) }
-    ensures either { FitsEither _net.now machine.now _timing.now → IfErr result (λ refusal. refusal ≡ no.Memory) }
+    ensures refused { IfErr result (λ no. (net : Netlist) (timing : Timing) → IsAcyclic net timing → AreItems net timing nodes.now
+        → IsRight net machine.now timing no) }
+    ensures either { (net : Netlist) (timing : Timing) → IsAcyclic net timing → AreItems net timing nodes.now
+        → FitsEither net machine.now timing → IfErr result (λ refusal. refusal ≡ no.Memory) }
 {
     either_fits();
     match homes(alloc, nodes, machine) {
@@ -161,8 +153,8 @@ pub(crate) fn compile_at(
     fits_nodes();
     fits_slots();
     fits_functions();
-    match plan_of(alloc, net, machine, timing, &housed) {
-        Ok(plan) => match routed(alloc, net, machine, timing, housed, plan) {
+    match plan_of(alloc, machine, &housed) {
+        Ok(plan) => match routed(alloc, net, timing, housed, plan) {
             Ok(compiled) => Ok(compiled),
             Err(_) => Err(CompNo::Memory),
         },
@@ -174,17 +166,14 @@ pub(crate) fn compile_at(
 }
 
 /// The plan of the items at their plain homes, if it fits.
-fn plan_of(
-    alloc: Global,
-    _net: &Netlist,
-    machine: &Machine,
-    _timing: &Timing,
-    housed: &Housed,
-) -> Result<Plan, CompNo>
-    requires housed { AreAtHome _net.now machine.now _timing.now housed.now }
+fn plan_of(alloc: Global, machine: &Machine, housed: &Housed) -> Result<Plan, CompNo>
+    requires nodes { IsWellFormed housed.now.nodes }
+    requires homes { AreHomes housed.now.nodes housed.now.homes }
+    requires picked { ArePicked housed.now.nodes machine.now housed.now.homes }
     ensures plan { IfOk result (IsFirstFitPlan housed.now.nodes housed.now.homes) }
     ensures fits { IfOk result (Fits housed.now.nodes housed.now.homes machine.now) }
-    ensures refused { IfErr result (IsRight _net.now machine.now _timing.now) }
+    ensures refused { IfErr result (λ no. (net : Netlist) (timing : Timing) → AreAtHome net machine.now timing housed.now
+        → IsRight net machine.now timing no) }
     ensures never { HomesFit housed.now.nodes machine.now housed.now.homes → IfErr result (λ refusal. refusal ≡ no.Memory) }
 {
     planned_or_refused();
@@ -232,22 +221,21 @@ pub(crate) fn plan_if_fits(
 pub(crate) fn routed(
     alloc: Global,
     net: &Netlist,
-    _machine: &Machine,
     timing: &Timing,
     housed: Housed,
     plan: Plan,
 ) -> Result<Compiled, Memory>
     requires net { IsValid net.now }
-    requires machine { IsValidMachine _machine.now }
     requires timing { IsValidTiming timing.now }
     requires nodes { IsWellFormed housed.nodes }
     requires acyclic { IsAcyclic net.now timing.now }
     requires items { AreItems net.now timing.now housed.nodes }
-    requires homes { AreHomesOn housed.nodes _machine.now housed.homes }
+    requires homes { AreHomes housed.nodes housed.homes }
     requires plan { IsFirstFitPlan housed.nodes housed.homes plan }
-    requires fits { Fits housed.nodes housed.homes _machine.now plan }
+    requires needed { plan.needed ≤ MAX_SLOTS }
     ensures shown { IfOk result (λ compiled. (stimulus : Stimulus) → ShowsReference net.now timing.now stimulus compiled.image) }
-    ensures design { IfOk result (IsDesign net.now _machine.now timing.now) }
+    ensures design { IfOk result (λ compiled. (machine : Machine) → AreHomesOn housed.nodes machine housed.homes
+        → Fits housed.nodes housed.homes machine plan → IsDesign net.now machine timing.now compiled) }
     ensures nodes { IfOk result (λ compiled. compiled.nodes ≡ housed.nodes) }
     ensures homes { IfOk result (λ compiled. compiled.homes ≡ housed.homes) }
 {

@@ -7,7 +7,7 @@ returns-in-Ok-clause-chosen c =
     let made = c.in-Ok.ensures in
     better_used c.args.net.now c.args.machine.now c.args.timing.now c.args.housed.nodes c.args.housed.homes c.args.improved.homes
     (record { compiled = c.in-Ok.compiled; before = c.args.improved.before; after = c.args.improved.after; better = true })
-    made.nodes c.requires.housed.picked made.design c.requires.improved.better c.requires.improved.before c.requires.improved.after refl made.homes
+    made.nodes c.requires.housed.picked (made.design c.args.machine.now c.requires.improved.on c.requires.fit) c.requires.improved.better c.requires.improved.before c.requires.improved.after refl made.homes
 
 pub returns-in-Ok-clause-fitted : goal.returns-in-Ok-clause-fitted
 returns-in-Ok-clause-fitted c = record {
@@ -20,7 +20,7 @@ returns-in-Ok-clause-fitted c = record {
 }
 
 pub routed-requires-clause-homes : goal.routed-requires-clause-homes
-routed-requires-clause-homes c = c.requires.improved.on
+routed-requires-clause-homes c = c.requires.improved.on.are
 
 pub routed-requires-clause-nodes : goal.routed-requires-clause-nodes
 routed-requires-clause-nodes c = c.requires.housed.formed
@@ -33,9 +33,6 @@ routed-requires-clause-items c = c.requires.housed.items
 
 pub routed-requires-clause-plan : goal.routed-requires-clause-plan
 routed-requires-clause-plan c = c.requires.plan
-
-pub routed-requires-clause-fits : goal.routed-requires-clause-fits
-routed-requires-clause-fits c = c.requires.fit
 
 pub returns-in-Ok-clause-shown : goal.returns-in-Ok-clause-shown
 returns-in-Ok-clause-shown c = c.in-Ok.ensures.shown

@@ -12,20 +12,14 @@ returns-in-Ok-homes_of-clause-housed c = record {
   homes = c.in-Ok-homes_of.ensures.homes;
 }
 
-pub homes_of-requires-clause-acyclic : goal.homes_of-requires-clause-acyclic
-homes_of-requires-clause-acyclic c = c.in-Ok.ensures.acyclic
-
-pub homes_of-requires-clause-items : goal.homes_of-requires-clause-items
-homes_of-requires-clause-items c = c.in-Ok.ensures.items
-
 pub returns-in-Err-homes_of-clause-refused : goal.returns-in-Err-homes_of-clause-refused
-returns-in-Err-homes_of-clause-refused c = c.in-Err-homes_of.ensures.refused
+returns-in-Err-homes_of-clause-refused c = c.in-Err-homes_of.ensures.refused c.args.net.now c.args.timing.now c.in-Ok.ensures.acyclic c.in-Ok.ensures.items
 
 pub returns-in-Err-homes_of-clause-either : goal.returns-in-Err-homes_of-clause-either
-returns-in-Err-homes_of-clause-either c = c.in-Err-homes_of.ensures.either
+returns-in-Err-homes_of-clause-either c = c.in-Err-homes_of.ensures.either c.args.net.now c.args.timing.now c.in-Ok.ensures.acyclic c.in-Ok.ensures.items
 
 pub returns-in-Err-clause-refused : goal.returns-in-Err-clause-refused
-returns-in-Err-clause-refused c = c.in-Err.ensures.refused
+returns-in-Err-clause-refused c = c.in-Err.ensures.refused c.args.machine.now
 
 pub returns-in-Err-clause-either : goal.returns-in-Err-clause-either
-returns-in-Err-clause-either c = c.in-Err.ensures.either
+returns-in-Err-clause-either c = c.in-Err.ensures.either c.args.machine.now

@@ -7,19 +7,15 @@ returns-in-Err-clause-fits c = λ fits.
     only_memory c.args.net.now c.args.machine.now c.args.timing.now c.requires.housed.acyclic
     (c.fits_bits.ensures c.args.net.now c.args.machine.now c.args.timing.now fits) (c.fits_nodes.ensures c.args.net.now c.args.machine.now c.args.timing.now fits)
     (c.fits_slots.ensures c.args.net.now c.args.machine.now c.args.timing.now c.requires.net fits) (c.fits_functions.ensures c.args.net.now c.args.machine.now c.args.timing.now fits)
-    c.in-Err.refusal c.in-Err.ensures.refused
+    c.in-Err.refusal (c.in-Err.ensures.refused c.args.net.now c.args.timing.now c.requires.housed)
 
 pub routed-requires-clause-homes : goal.routed-requires-clause-homes
-routed-requires-clause-homes c = record {
-  logic = c.requires.housed.picked.logic;
-  array = c.requires.housed.picked.array;
-  are = c.requires.housed.homes;
-  memories = c.requires.housed.picked.memories;
-}
+routed-requires-clause-homes c = c.requires.housed.homes
 
 pub returns-in-Ok-routed-clause-compiled : goal.returns-in-Ok-routed-clause-compiled
 returns-in-Ok-routed-clause-compiled c =
-    design_compiled c.args.net.now c.args.machine.now c.args.timing.now c.args.housed.nodes c.args.housed.homes c.in-Ok-routed.compiled c.in-Ok-routed.ensures.nodes c.in-Ok-routed.ensures.homes c.requires.housed.picked c.in-Ok-routed.ensures.design
+    design_compiled c.args.net.now c.args.machine.now c.args.timing.now c.args.housed.nodes c.args.housed.homes c.in-Ok-routed.compiled c.in-Ok-routed.ensures.nodes c.in-Ok-routed.ensures.homes c.requires.housed.picked
+    (c.in-Ok-routed.ensures.design c.args.machine.now (record { logic = c.requires.housed.picked.logic; array = c.requires.housed.picked.array; are = c.requires.housed.homes; memories = c.requires.housed.picked.memories }) c.in-Ok.ensures.fits)
 
 pub routed-requires-clause-net : goal.routed-requires-clause-net
 routed-requires-clause-net c = c.requires.net
@@ -36,9 +32,6 @@ routed-requires-clause-items c = c.requires.housed.items
 pub routed-requires-clause-plan : goal.routed-requires-clause-plan
 routed-requires-clause-plan c = c.in-Ok.ensures.plan
 
-pub routed-requires-clause-fits : goal.routed-requires-clause-fits
-routed-requires-clause-fits c = c.in-Ok.ensures.fits
-
 pub returns-in-Ok-routed-clause-shown : goal.returns-in-Ok-routed-clause-shown
 returns-in-Ok-routed-clause-shown c = c.in-Ok-routed.ensures.shown
 
@@ -49,7 +42,7 @@ pub returns-in-Ok-routed-clause-homes : goal.returns-in-Ok-routed-clause-homes
 returns-in-Ok-routed-clause-homes c = c.in-Ok-routed.ensures.homes
 
 pub returns-in-Err-clause-refused : goal.returns-in-Err-clause-refused
-returns-in-Err-clause-refused c = c.in-Err.ensures.refused
+returns-in-Err-clause-refused c = c.in-Err.ensures.refused c.args.net.now c.args.timing.now c.requires.housed
 
 pub returns-in-Err-clause-homes_fit : goal.returns-in-Err-clause-homes_fit
 returns-in-Err-clause-homes_fit c = c.in-Err.ensures.never

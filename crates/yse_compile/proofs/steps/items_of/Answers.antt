@@ -8,11 +8,11 @@ pub returns-in-Ok-map_nodes-clause-items : goal.returns-in-Ok-map_nodes-clause-i
 returns-in-Ok-map_nodes-clause-items c = c.in-Ok-map_nodes.ensures.items
 
 pub returns-in-Ok-clause-either : goal.returns-in-Ok-clause-either
-returns-in-Ok-clause-either c = λ either. refl
+returns-in-Ok-clause-either c = λ machine either. refl
 
 pub returns-in-Err-Loop-clause-either : goal.returns-in-Err-Loop-clause-either
 returns-in-Err-Loop-clause-either c =
-    λ either. absurd (either.acyclic c.in-Err-Loop.members (rw c.in-Err-Loop.field-0-is at c.in-Err-Loop.ensures.looped).circle)
+    λ machine either. absurd (either.acyclic c.in-Err-Loop.members (rw c.in-Err-Loop.field-0-is at c.in-Err-Loop.ensures.looped).circle)
 
 pub returns-in-Ok-map_nodes-clause-acyclic : goal.returns-in-Ok-map_nodes-clause-acyclic
 returns-in-Ok-map_nodes-clause-acyclic c = c.in-Ok.ensures.acyclic

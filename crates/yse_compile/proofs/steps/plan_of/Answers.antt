@@ -3,27 +3,27 @@ use Rattle.slot_plan.specs.Refusals.{IsRight}
 use Rattle.yse_compile.proofs.steps.plan_of.Goals as goal
 
 pub returns-in-Err-Slots-clause-refused : goal.returns-in-Err-Slots-clause-refused
-returns-in-Err-Slots-clause-refused c = record {
-  acyclic = c.requires.housed.acyclic;
+returns-in-Err-Slots-clause-refused c = λ net timing home. record {
+  acyclic = home.acyclic;
   nodes = c.args.housed.now.nodes;
-  items = c.requires.housed.items;
+  items = home.items;
   homes = c.args.housed.now.homes;
-  picked = c.requires.housed.picked;
+  picked = home.picked;
   long = subst (IsRight c.args.housed.now.nodes c.args.housed.now.homes c.args.machine.now) c.in-Err-Slots.field-0-is c.in-Err-Slots.ensures.refused;
 }
 
 pub returns-in-Err-Slots-clause-never : goal.returns-in-Err-Slots-clause-never
 returns-in-Err-Slots-clause-never c = λ fit.
-    absurd (c.planned_or_refused.ensures.slots c.args.housed.now.nodes c.args.machine.now c.args.housed.now.homes c.requires.housed.formed fit c.in-Err-Slots.needed c.in-Err-Slots.limit
+    absurd (c.planned_or_refused.ensures.slots c.args.housed.now.nodes c.args.machine.now c.args.housed.now.homes c.requires.nodes fit c.in-Err-Slots.needed c.in-Err-Slots.limit
     (subst (IsRight c.args.housed.now.nodes c.args.housed.now.homes c.args.machine.now) c.in-Err-Slots.field-0-is c.in-Err-Slots.ensures.refused))
 
 pub returns-in-Err-Functions-clause-refused : goal.returns-in-Err-Functions-clause-refused
-returns-in-Err-Functions-clause-refused c = record {
-  acyclic = c.requires.housed.acyclic;
+returns-in-Err-Functions-clause-refused c = λ net timing home. record {
+  acyclic = home.acyclic;
   nodes = c.args.housed.now.nodes;
-  items = c.requires.housed.items;
+  items = home.items;
   homes = c.args.housed.now.homes;
-  picked = c.requires.housed.picked;
+  picked = home.picked;
   crowded = subst (IsRight c.args.housed.now.nodes c.args.housed.now.homes c.args.machine.now) c.in-Err-Functions.field-0-is c.in-Err-Functions.ensures.refused;
 }
 

@@ -9,7 +9,7 @@ returns-in-Ok-clause-shown c = λ stimulus.
     (λ values are. c.in-Ok.ensures.values stimulus values are)
 
 pub switch_and_image-requires-clause-homes : goal.switch_and_image-requires-clause-homes
-switch_and_image-requires-clause-homes c = c.requires.homes.are
+switch_and_image-requires-clause-homes c = c.requires.homes
 
 pub switch_and_image-requires-clause-nodes : goal.switch_and_image-requires-clause-nodes
 switch_and_image-requires-clause-nodes c = c.requires.nodes
@@ -18,15 +18,15 @@ pub switch_and_image-requires-clause-plan : goal.switch_and_image-requires-claus
 switch_and_image-requires-clause-plan c = c.requires.plan
 
 pub returns-in-Ok-clause-design : goal.returns-in-Ok-clause-design
-returns-in-Ok-clause-design c = record {
+returns-in-Ok-clause-design c = λ machine on fits. record {
   acyclic = c.requires.acyclic;
   items = c.requires.items;
-  logic = c.requires.homes.logic;
-  array = c.requires.homes.array;
-  homes = c.requires.homes.are;
-  memories = c.requires.homes.memories;
+  logic = on.logic;
+  array = on.array;
+  homes = c.requires.homes;
+  memories = on.memories;
   first_fit = c.requires.plan;
-  fits = c.requires.fits;
+  fits = fits;
   routed = c.in-Ok.ensures.routed;
   built = c.in-Ok.ensures.built;
 }
