@@ -1,8 +1,7 @@
 //! How the calling thread goes through turns: each worker's members come to the same turn before any of them
 //! goes on, and once a turn was gone through, the visits of it are a hint for the turns after it.
 
-use crate::phase::{NO_TURN, Progress};
-use crate::pulse::Pulse;
+use crate::phase::Progress;
 
 /// The most visits of a turn that are written down. What comes after them is found by rounds.
 const MOST_VISITS: usize = 65_536;
@@ -12,6 +11,9 @@ const MOST_SEATS: usize = 256;
 
 /// Which lap is written down. In the ones before it members may make steps that they need only once.
 const WRITTEN_LAP: u32 = 3;
+
+/// The turn to which members go that need not come to one.
+const NO_TURN: u64 = u64::MAX;
 
 /// Some steps of one member, by its worker's place and its own.
 #[derive(Clone, Copy)]
@@ -51,8 +53,6 @@ pub struct Course {
     visits: [Visit; MOST_VISITS],
     len: usize,
     lap_steps: u64,
-    // nobody asks: there is no other thread
-    pulse: Pulse,
 }
 
 impl Course {
@@ -74,18 +74,12 @@ impl Course {
             visits: [none; MOST_VISITS],
             len: 0,
             lap_steps: 0,
-            pulse: Pulse::new(u64::MAX),
         }
     }
 
     /// The turn to which the members go; at first none, so that a round finds where they are.
     pub fn goal(&self) -> u64 {
         self.goal
-    }
-
-    /// The pulse of this thread.
-    pub fn pulse(&self) -> &Pulse {
-        &self.pulse
     }
 
     /// Puts a member at the end of the round, given by its worker's place and its own.

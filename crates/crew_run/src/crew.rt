@@ -27,7 +27,7 @@ const MOST_SOLO_STEPS: u64 = 64_000_000;
 const GOOD_GAIN: u64 = 4;
 
 /// The steps after which a worker ends the first phase in threads where no worker has more than few members.
-const FEW_STEPS: u64 = 20_000;
+const FEW_STEPS: u64 = 1_000;
 
 /// Whether the worker's members are all done.
 fn is_done<S: Stepper, G>(worker: &Worker<S, G>) -> bool

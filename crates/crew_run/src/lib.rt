@@ -22,7 +22,7 @@
 //! each worker. The next one is twice as long, up to 64,000,000 steps, but as short as the first again if the
 //! phase in threads between them made more than four times its steps. A crew of one worker makes all its steps
 //! in such a phase, which then has no bound. Where no worker has more than few members, by `Stepper::few_members`,
-//! the first phase ends once a worker has made 20,000 steps in it, and the next one has no bound either: such workers
+//! the first phase ends once a worker has made 1,000 steps in it, and the next one has no bound either: such workers
 //! would wait for one another at nearly every step.
 //!
 //! One thread goes by turns: all members come to the same turn before any of them goes on. What visits the third turn
@@ -48,6 +48,7 @@ mod course;
 mod crew;
 mod gate;
 mod lend;
+mod pace;
 mod phase;
 mod pulse;
 mod solo;

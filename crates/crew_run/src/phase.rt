@@ -7,6 +7,7 @@ ghost use Rattle.crew_run.specs.code.Phases.{AreBegun, AreStepped, CanResume, Ca
 ghost use Rattle.crew_run.specs.Visits.{IsUntold};
 
 use crate::gate::Gate;
+use crate::pace::Pace;
 use crate::pulse::{Pulse, Watch};
 use crate::stepper::{Step, Stepper};
 use crate::worker::Worker;
@@ -15,9 +16,6 @@ use std::sync::Wait;
 /// The most steps that a member makes in one round.
 pub const STEPS_A_ROUND: u32 = 64;
 
-/// The turn to which members go that need not come to one.
-pub const NO_TURN: u64 = u64::MAX;
-
 /// What a round came to, or the steps of one member in it.
 #[derive(Clone, Copy)]
 pub struct Progress {
@@ -25,7 +23,7 @@ pub struct Progress {
     pub moved: u64,
     /// The latest turn that a member is in.
     pub latest: u64,
-    /// Each member was found done, or in the turn to which it goes or a later one.
+    /// Each member was found done, or halted by its pace.
     pub arrived: bool,
 }
 
@@ -100,13 +98,12 @@ fn step_once<S: Stepper, G: Gate>(member: &mut S, gate: &mut G) -> Step
     step
 }
 
-/// Steps a member until it is in turn `goal`, waits, is done, or has made so many steps.
-pub fn step_member<S: Stepper, G: Gate>(
+/// Steps a member until its pace halts it, or it waits, is done, or has made so many steps.
+pub fn step_member<S: Stepper, G: Gate, P: Pace>(
     member: &mut S,
     gate: &mut G,
-    goal: u64,
     steps: u32,
-    pulse: &Pulse,
+    pace: &P,
 ) -> Progress
     requires port { S.port member.old < MAX_PORTS }
     requires within { S.turn member.old ≤ S.last_turn member.old + 1 }
@@ -116,7 +113,7 @@ pub fn step_member<S: Stepper, G: Gate>(
 {
     let mut moved = 0;
     'steps: for k in 0..steps {
-        if member.turn() >= goal {
+        if pace.halts(member.turn()) {
             return Progress::of(member, moved, true);
         }
         match step_once(member, gate) {
@@ -124,7 +121,7 @@ pub fn step_member<S: Stepper, G: Gate>(
             Step::NotYet => return Progress::of(member, moved, false),
             Step::Done => return Progress::of(member, moved, true),
         }
-        pulse.answer();
+        pace.moved();
     }
     Progress::of(member, moved, false)
 }
@@ -137,7 +134,7 @@ fn run_round<S: Stepper, G: Gate>(members: &mut [S], gate: &mut G, pulse: &Pulse
     let mut progress = Progress::none();
     'members: for k in 0..members.len() {
         let member = &mut members[k];
-        progress = progress.and(step_member(member, gate, NO_TURN, STEPS_A_ROUND, pulse));
+        progress = progress.and(step_member(member, gate, STEPS_A_ROUND, pulse));
     }
     progress
 }

@@ -5,38 +5,36 @@ ghost use Rattle.crew_run.specs.code.Phases.{CanResume, Each, IsResumed};
 
 use crate::course::{Course, Visit};
 use crate::gate::Gate;
-use crate::phase::{NO_TURN, Progress, STEPS_A_ROUND};
-use crate::pulse::Pulse;
+use crate::pace::{ByVisits, Pace, UpTo};
+use crate::phase::{Progress, STEPS_A_ROUND};
 use crate::stepper::Stepper;
 use crate::turns::step_one;
 use crate::worker::Worker;
 use limits::MAX_PORTS;
 
 /// Some steps of a member of a worker, of whose turns its own gate is told.
-fn visit<S: Stepper, G: Gate>(
+fn visit<S: Stepper, G: Gate, P: Pace>(
     worker: &mut Worker<S, G>,
     k: usize,
-    goal: u64,
     steps: u32,
-    pulse: &Pulse,
+    pace: &P,
 ) -> Progress
     requires { CanResume S.Stepper.own G.Gate.own worker.old }
     ensures { IsResumed S.Stepper.own G.Gate.own worker.old worker.new }
 {
     // the gate stays where it is: it is large, and moving it out and back would cost each round
     match &mut worker.gate {
-        Some(gate) => step_one(worker.members.as_mut_slice(), gate, k, goal, steps, pulse),
+        Some(gate) => step_one(worker.members.as_mut_slice(), gate, k, steps, pace),
         None => Progress::none(),
     }
 }
 
 /// The same of a member, where its worker is there.
-fn visit_one<S: Stepper, G: Gate>(
+fn visit_one<S: Stepper, G: Gate, P: Pace>(
     workers: &mut [Worker<S, G>],
     seat: Visit,
-    goal: u64,
     steps: u32,
-    pulse: &Pulse,
+    pace: &P,
 ) -> Progress
     requires { (i : ℕ) (w : Worker S G) → slice_get workers.old i ≡ Some w → CanResume S.Stepper.own G.Gate.own w }
     ensures { Each (IsResumed S.Stepper.own G.Gate.own) workers.old workers.new }
@@ -45,7 +43,7 @@ fn visit_one<S: Stepper, G: Gate>(
     if i >= workers.len() {
         return Progress::none();
     }
-    visit(&mut workers[i], seat.member(), goal, steps, pulse)
+    visit(&mut workers[i], seat.member(), steps, pace)
 }
 
 /// One round: each member goes towards the turn to which they go.
@@ -54,9 +52,10 @@ fn visit_all<S: Stepper, G: Gate>(workers: &mut [Worker<S, G>], course: &mut Cou
     ensures { Each (IsResumed S.Stepper.own G.Gate.own) workers.old workers.new }
 {
     let mut round = Progress::none();
+    let goal = UpTo(course.goal());
     'seats: for v in 0..course.seated() {
         let seat = course.seat_at(v);
-        let steps = visit_one(workers, seat, course.goal(), STEPS_A_ROUND, course.pulse());
+        let steps = visit_one(workers, seat, STEPS_A_ROUND, &goal);
         course.add(seat, steps.moved);
         round = round.and(steps);
     }
@@ -70,7 +69,7 @@ fn revisit_all<S: Stepper, G: Gate>(workers: &mut [Worker<S, G>], course: &Cours
 {
     'visits: for v in 0..course.due() {
         let due = course.visit(v);
-        visit_one(workers, due, NO_TURN, due.steps(), course.pulse());
+        visit_one(workers, due, due.steps(), &ByVisits);
     }
 }
 

@@ -1,21 +1,19 @@
-//! The members of one worker, on their way to a turn.
+//! The members of one worker, by their places.
 
 ghost use Rattle.crew_run.specs.code.Phases.{AreStepped, CanStep};
 
 use crate::gate::Gate;
+use crate::pace::Pace;
 use crate::phase::{Progress, step_member};
-use crate::pulse::Pulse;
 use crate::stepper::Stepper;
 
-/// Steps the member in this place, if it is there, until it is in turn `goal`, waits, is done, or has made so many
-/// steps.
-pub fn step_one<S: Stepper, G: Gate>(
+/// Steps the member in this place, if it is there, as `step_member` does.
+pub fn step_one<S: Stepper, G: Gate, P: Pace>(
     members: &mut [S],
     gate: &mut G,
     k: usize,
-    goal: u64,
     steps: u32,
-    pulse: &Pulse,
+    pace: &P,
 ) -> Progress
     requires { CanStep S.Stepper.own G.Gate.own members.old gate.old }
     ensures { AreStepped S.Stepper.own G.Gate.own members.old gate.old members.new gate.new }
@@ -23,5 +21,5 @@ pub fn step_one<S: Stepper, G: Gate>(
     if k >= members.len() {
         return Progress::none();
     }
-    step_member(&mut members[k], gate, goal, steps, pulse)
+    step_member(&mut members[k], gate, steps, pace)
 }
