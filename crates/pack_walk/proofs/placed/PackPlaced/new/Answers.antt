@@ -1,5 +1,7 @@
-use Rattle.std.proofs.Common.{◌*◌, ap, sym, subst}
+use Rattle.std.proofs.Common.{◌*◌, ◌≡◌, ap, length, refl, sym, subst, arith}
 use Rattle.image_defs.specs.Places.{IsPort}
+use Rattle.image_defs.specs.Ports.{at_first}
+use Rattle.image_defs.specs.WellFormed.{IsWellFormed}
 use Rattle.port_bank.specs.Packed.{PackPortView}
 use Rattle.port_walk.proofs.KindLemmas.{seat_there}
 use Rattle.pack_walk.proofs.PlacedLemmas.{all_valid, all_turns}
@@ -20,3 +22,12 @@ new-requires-clause-seat c =
 
 pub new-requires-clause-until : goal.new-requires-clause-until
 new-requires-clause-until c = all_turns c.args.image.now c.args.lanes.now c.args.port _ c.in_ok-kind.ensures.view _ (ap (λ n. c.args.image.now.units * n) c.cycles.ensures)
+
+pub bounds-as_slice-port : goal.bounds-as_slice-port
+bounds-as_slice-port c = omega (arith, c.requires.there, ap length c.as_slice.ensures)
+
+pub new-requires-clause-image : goal.new-requires-clause-image
+new-requires-clause-image c = subst (λ (view : PackPortView). IsWellFormed view.image) (sym c.in_ok-kind.ensures.view) c.requires.image
+
+pub new-requires-clause-first : goal.new-requires-clause-first
+new-requires-clause-first c = subst (λ (view : PackPortView). view ≡ at_first view.image view.stimulus view.port) (sym c.in_ok-kind.ensures.view) refl

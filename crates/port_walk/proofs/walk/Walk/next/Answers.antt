@@ -1,9 +1,10 @@
-use Rattle.std.proofs.Common.{◌∙◌, length, get_or, ap, subst, sym}
+use Rattle.std.proofs.Common.{◌∙◌, length, get_or, ap, subst, sym, arith}
+use Rattle.std.proofs.lemmas.Option.{slice_get_within}
 use Rattle.port_walk.specs.declared.upcoming.Upcoming.TheVariants.{Take, Tell}
 use Rattle.port_walk.specs.Stands.{IsNextOf}
 use Rattle.port_walk.specs.Walks.{Walked}
 use Rattle.port_walk.proofs.KeptLemmas.{next_take, next_tell}
-use Rattle.port_walk.proofs.MoveLemmas.{at_here, row_sent, sent_there, sent_rising, sent_next}
+use Rattle.port_walk.proofs.MoveLemmas.{at_here, link_sent, row_sent, sent_there, sent_rising, sent_next}
 use Rattle.port_walk.proofs.WalkLemmas.{no_stop}
 use Rattle.port_walk.proofs.walk.Walk.next.Goals as goal
 
@@ -36,3 +37,19 @@ returns-in-End g c =
     let kept = c.self.invariant in
     subst (λ (view : Walked _). IsNextOf view.stand c.args.known.now c.args.banks Tell) c.self.view_is
     (next_tell g.W.Word _ kept _ (at_here g.W.Word kept c.as_slice.result.now c.as_slice.ensures) c.args.known.now c.args.banks c.if-self.false c.in-End.is)
+
+pub offset_bounds-as_slice-self-inside : goal.offset_bounds-as_slice-self-inside
+offset_bounds-as_slice-self-inside g c =
+    let within = slice_get_within c.self.inside.stops c.self.inside.at _ (at_here g.W.Word c.self.invariant c.as_slice.result.now c.as_slice.ensures) in
+    omega (arith, within, ap length c.as_slice.ensures, c.as_slice.type_inv.1)
+
+pub bounds-as_slice-self-inside : goal.bounds-as_slice-self-inside
+bounds-as_slice-self-inside g c =
+    let within = slice_get_within c.self.inside.stops c.self.inside.at _ (at_here g.W.Word c.self.invariant c.as_slice.result.now c.as_slice.ensures) in
+    omega (arith, within, ap length c.as_slice.ensures)
+
+pub readers_at-readers-requires-clause-there : goal.readers_at-readers-requires-clause-there
+readers_at-readers-requires-clause-there g c =
+    let link = link_sent g.W.Word c.self.invariant c.as_slice.result.now c.as_slice.ensures c.in-Send.is in
+    let within = slice_get_within c.self.inside.seat.now.outs c.self.inside.sent link.0 link.1.is in
+    omega (arith, within, c.self.invariant.readers.count)
