@@ -111,7 +111,7 @@ pub(crate) fn plan(alloc: Global, machine: &Machine, housed: Housed) -> Result<P
 
 /// What is planned, with the settings of its switch.
 pub(crate) fn route(alloc: Global, planned: Planned) -> Result<Routed, Memory>
-    requires planned { IsPlanned planned }
+    requires { IsPlanned planned }
     ensures switch { IfOk result (λ routed. IsSwitch planned.housed.nodes planned.housed.homes planned.plan.slots routed.switch) }
     ensures same { IfOk result (λ routed. routed.planned ≡ planned) }
 {
