@@ -1,6 +1,5 @@
 -- By a choice of homes a design fits or is refused, and it has one design's homes.
-use Rattle.std.proofs.Common.{◌≡◌, ◌∙◌, ◌⊎◌, inl, inr, ℕ, true, false, Result, Ok, Err, refl, sym, ap, subst}
-use Rattle.std.specs.Prelude.{IfErr}
+use Rattle.std.proofs.Common.{◌≡◌, ◌∙◌, ◌⊎◌, inl, inr, ℕ, true, false, refl, sym, ap, subst}
 use Rattle.machine_text.specs.declared.machine.Machine.{Machine}
 use Rattle.machine_text.specs.Machines.{IsValid as IsValidMachine}
 use Rattle.net_defs.specs.declared.homes.HomeChoice.{HomeChoice}
@@ -13,16 +12,24 @@ use Rattle.node_defs.specs.WellFormed.{IsWellFormed}
 use Rattle.plan_defs.specs.declared.plan.Homes.{Homes}
 use Rattle.plan_defs.specs.Homes.{AreHomes}
 use Rattle.plan_defs.specs.Picks.{ArePicked}
+use Rattle.plan_defs.specs.Slots.{IsFirstFitPlan}
+use Rattle.plan_defs.specs.Tables.{Fits}
 use Rattle.home_better.specs.Better.{bound_of, IsBetter}
 use Rattle.home_better.specs.Crossings.{crossings}
 use Rattle.home_better.proofs.PassLemmas.{passes_way, start_way}
+use Rattle.home_pick.specs.declared.pick.HomeNo.{HomeNo}
+use Rattle.home_pick.specs.declared.pick.HomeNo.TheVariants.{Bits as NoBits, Memory as NoRoom, Nodes as ManyNodes}
+use Rattle.home_pick.specs.Refusals.{IsRight as LacksHomes}
 use Rattle.home_pick.proofs.HomeLemmas.{homes_are}
+use Rattle.slot_plan.specs.declared.fit.PlanNo.{PlanNo}
+use Rattle.slot_plan.specs.declared.fit.PlanNo.TheVariants.{Slots as ManySlots, Functions as ManyFunctions, Memory as NoMemory}
+use Rattle.slot_plan.specs.Refusals.{IsCrowded, IsLong, IsRight as IsUnplanned}
 use Rattle.yse_compile.specs.declared.choose.Chosen.{Chosen}
 use Rattle.yse_compile.specs.declared.compiler.Compiled.{Compiled}
 use Rattle.yse_compile.specs.declared.compiler.CompNo.{CompNo}
 use Rattle.yse_compile.specs.declared.compiler.CompNo.TheVariants.{Loop, Bits, Slots, Functions, Memory, Nodes}
-use Rattle.yse_compile.specs.Chosen.{FitsBy, FitsEither, HomesFit, IsChosen, IsDesign, UsesPlain, UsesBetter}
-use Rattle.yse_compile.specs.Compiled.{IsCompiled, IsOverfull, IsRight}
+use Rattle.yse_compile.specs.Chosen.{FitsBy, FitsEither, HomesFit, IsDesign, IsUsed, UsesPlain, UsesBetter}
+use Rattle.yse_compile.specs.Compiled.{IsCompiled, IsOverfull, IsRight, of_homes, of_plan}
 use Rattle.yse_compile.specs.Designs.{IsAcyclic, DesignFits, LacksBits, LacksNodes, LacksSlots, LacksFunctions}
 use Rattle.yse_compile.proofs.FitLemmas.{FitsOrNot, LacksPlan}
 
@@ -30,11 +37,6 @@ use Rattle.yse_compile.proofs.FitLemmas.{FitsOrNot, LacksPlan}
 pub better_are : (nodes : NodeNet) (machine : Machine) (start better : Homes) → IsWellFormed nodes → AreHomes nodes start → IsBetter nodes machine start better → AreHomes nodes better
 better_are nodes machine start better formed are is =
     subst (AreHomes nodes) (sym is.reached) (passes_way nodes machine (bound_of nodes start) start is.count formed (start_way nodes machine start are)).are
-
--- want of memory is a right refusal
-pub memory_right : {X : Type 0} (net : Netlist) (machine : Machine) (timing : Timing) (result : Result X CompNo) → IfErr result (λ refusal. refusal ≡ Memory) → IfErr result (IsRight net machine timing)
-memory_right net machine timing (Ok x) is = is
-memory_right net machine timing (Err refusal) is = subst (IsRight net machine timing) (sym is) tt
 
 -- what fits at its plain homes fits at them or at better ones
 pub plain_either : (net : Netlist) (machine : Machine) (timing : Timing) → DesignFits net machine timing → FitsEither net machine timing
@@ -129,90 +131,56 @@ compiled_design net machine timing compiled homes is = record {
   built = is.built;
 }
 
--- a design at the homes that are picked is compiled
-pub design_compiled : (net : Netlist) (machine : Machine) (timing : Timing) (nodes : NodeNet) (plain : Homes) (compiled : Compiled) → compiled.nodes ≡ nodes → compiled.homes ≡ plain → ArePicked nodes machine plain → IsDesign net machine timing compiled
-    → IsCompiled net machine timing compiled
-design_compiled net machine timing nodes plain compiled same homes picked is = record {
-  acyclic = is.acyclic;
-  items = is.items;
-  picked = subst (λ n. ArePicked n machine compiled.homes) (sym same) (subst (ArePicked nodes machine) (sym homes) picked);
-  first_fit = is.first_fit;
-  fits = is.fits;
-  routed = is.routed;
-  built = is.built;
+-- homes that a choice uses fit by it
+pub used_fits : (net : Netlist) (machine : Machine) (timing : Timing) (nodes : NodeNet) (plain : Homes) (choice : HomeChoice) (chosen : Chosen) → IsAcyclic net timing → AreItems net timing nodes → ArePicked nodes machine plain
+    → HomesFit nodes machine chosen.compiled.homes → IsUsed choice nodes machine plain chosen → FitsBy choice net machine timing
+used_fits net machine timing nodes plain Plain chosen acyclic items picked fit used = record {
+  acyclic = acyclic;
+  nodes = nodes;
+  items = items;
+  homes = plain;
+  picked = picked;
+  plan = fit.plan;
+  first_fit = subst (λ h. IsFirstFitPlan nodes h fit.plan) used.homes fit.first_fit;
+  fits = subst (λ h. Fits nodes h machine fit.plan) used.homes fit.fits;
 }
-
--- it fits
-pub compiled_fits : (net : Netlist) (machine : Machine) (timing : Timing) (compiled : Compiled) → IsCompiled net machine timing compiled → DesignFits net machine timing
-compiled_fits net machine timing compiled is = record {
-  acyclic = is.acyclic;
-  nodes = compiled.nodes;
-  items = is.items;
-  homes = compiled.homes;
-  picked = is.picked;
-  plan = compiled.plan;
-  first_fit = is.first_fit;
-  fits = is.fits;
-}
-
--- the same items at the same homes
-homes_kept : (nodes : NodeNet) (plain : Homes) (compiled : Compiled) → compiled.nodes ≡ nodes → compiled.homes ≡ plain → AreHomes nodes plain → AreHomes compiled.nodes compiled.homes
-homes_kept nodes plain compiled same homes are = subst (λ n. AreHomes n compiled.homes) (sym same) (subst (AreHomes nodes) (sym homes) are)
-
--- ---- the homes that are used
-
--- the plain homes are used, where they are asked
-pub plain_used : (net : Netlist) (machine : Machine) (timing : Timing) (nodes : NodeNet) (plain : Homes) (chosen : Chosen)
-    → chosen.compiled.nodes ≡ nodes → ArePicked nodes machine plain → AreHomes nodes plain → IsCompiled net machine timing chosen.compiled
-    → chosen.before ≡ crossings nodes plain → chosen.after ≡ crossings nodes plain → chosen.better ≡ false → chosen.compiled.homes ≡ plain
-    → IsChosen net machine timing Plain chosen
-plain_used net machine timing nodes plain chosen same picked are compiled before after plainly homes = record {
+used_fits net machine timing nodes plain Better chosen acyclic items picked fit used = record {
+  acyclic = acyclic;
+  nodes = nodes;
+  items = items;
   plain = plain;
-  picked = subst (λ n. ArePicked n machine plain) (sym same) picked;
-  design = compiled_design net machine timing chosen.compiled (homes_kept nodes plain chosen.compiled same homes are) compiled;
-  used = record {
-    homes = homes;
-    plainly = plainly;
-    before = before ∙ ap (λ n. crossings n plain) (sym same);
-    after = after ∙ ap (λ n. crossings n plain) (sym same);
-  };
+  picked = picked;
+  fit = elim used.used [
+    | inl best ↦ inr (used.best, used.is_better, subst (HomesFit nodes machine) best.1 fit)
+    | inr kept ↦ inl (subst (HomesFit nodes machine) kept.1 fit)
+  ];
 }
 
--- the plain homes are used, where better ones do not fit
-pub plain_kept : (net : Netlist) (machine : Machine) (timing : Timing) (nodes : NodeNet) (plain best : Homes) (chosen : Chosen)
-    → chosen.compiled.nodes ≡ nodes → ArePicked nodes machine plain → AreHomes nodes plain → IsCompiled net machine timing chosen.compiled → IsBetter nodes machine plain best
-    → chosen.before ≡ crossings nodes plain → chosen.after ≡ crossings nodes best → chosen.better ≡ false → chosen.compiled.homes ≡ plain → (HomesFit nodes machine best → ⊥)
-    → IsChosen net machine timing Better chosen
-plain_kept net machine timing nodes plain best chosen same picked are compiled is before after plainly homes unfit = record {
-  plain = plain;
-  picked = subst (λ n. ArePicked n machine plain) (sym same) picked;
-  design = compiled_design net machine timing chosen.compiled (homes_kept nodes plain chosen.compiled same homes are) compiled;
-  used = record {
-    best = best;
-    is_better = subst (λ n. IsBetter n machine plain best) (sym same) is;
-    before = before ∙ ap (λ n. crossings n plain) (sym same);
-    after = after ∙ ap (λ n. crossings n best) (sym same);
-    used = inr (plainly, homes, λ fits. unfit (subst (λ n. HomesFit n machine best) same fits));
-  };
-}
+-- ---- refusals of homes and of plans
 
--- the better homes are used
-pub better_used : (net : Netlist) (machine : Machine) (timing : Timing) (nodes : NodeNet) (plain best : Homes) (chosen : Chosen)
-    → chosen.compiled.nodes ≡ nodes → ArePicked nodes machine plain → IsDesign net machine timing chosen.compiled → IsBetter nodes machine plain best
-    → chosen.before ≡ crossings nodes plain → chosen.after ≡ crossings nodes best → chosen.better ≡ true → chosen.compiled.homes ≡ best
-    → IsChosen net machine timing Better chosen
-better_used net machine timing nodes plain best chosen same picked design is before after better homes = record {
-  plain = plain;
-  picked = subst (λ n. ArePicked n machine plain) (sym same) picked;
-  design = design;
-  used = record {
-    best = best;
-    is_better = subst (λ n. IsBetter n machine plain best) (sym same) is;
-    before = before ∙ ap (λ n. crossings n plain) (sym same);
-    after = after ∙ ap (λ n. crossings n best) (sym same);
-    used = inl (better, homes);
-  };
-}
+module _ (net : Netlist) (machine : Machine) (timing : Timing) (nodes : NodeNet) (acyclic : IsAcyclic net timing) (items : AreItems net timing nodes) where
+  pub homes_right : (refusal : HomeNo) → LacksHomes nodes machine refusal → IsRight net machine timing (of_homes refusal)
+  homes_right (NoBits block needed left) lacks = record { acyclic = acyclic; nodes = nodes; items = items; none = lacks }
+  homes_right NoRoom lacks = tt
+  homes_right (ManyNodes needed limit) lacks = record { acyclic = acyclic; nodes = nodes; items = items; many = lacks }
+
+  pub homes_only : ((block needed left : ℕ) → LacksBits net machine timing block needed left → ⊥) → ((needed limit : ℕ) → LacksNodes net machine timing needed limit → ⊥)
+      → (refusal : HomeNo) → LacksHomes nodes machine refusal → of_homes refusal ≡ Memory
+  homes_only bits many (NoBits block needed left) lacks = absurd (bits block needed left (homes_right (NoBits block needed left) lacks))
+  homes_only bits many NoRoom lacks = refl
+  homes_only bits many (ManyNodes needed limit) lacks = absurd (many needed limit (homes_right (ManyNodes needed limit) lacks))
+
+  module _ (plain : Homes) (picked : ArePicked nodes machine plain) where
+    pub plan_right : (refusal : PlanNo) → IsUnplanned nodes plain machine refusal → IsRight net machine timing (of_plan refusal)
+    plan_right (ManySlots needed limit) lacks = record { acyclic = acyclic; nodes = nodes; items = items; homes = plain; picked = picked; long = lacks }
+    plan_right (ManyFunctions port needed limit) lacks = record { acyclic = acyclic; nodes = nodes; items = items; homes = plain; picked = picked; crowded = lacks }
+    plan_right NoMemory lacks = tt
+
+    pub plan_only : ((needed limit : ℕ) → IsLong nodes plain machine needed limit → ⊥) → ((port needed limit : ℕ) → IsCrowded nodes plain machine port needed limit → ⊥)
+        → (refusal : PlanNo) → IsUnplanned nodes plain machine refusal → of_plan refusal ≡ Memory
+    plan_only slots functions (ManySlots needed limit) lacks = absurd (slots needed limit lacks)
+    plan_only slots functions (ManyFunctions port needed limit) lacks = absurd (functions port needed limit lacks)
+    plan_only slots functions NoMemory lacks = refl
 
 -- ---- one choice
 

@@ -14,11 +14,8 @@ use Rattle.node_defs.specs.declared.items.NodeNet.{NodeNet}
 use Rattle.node_defs.specs.Items.{own, IsNamed}
 use Rattle.node_defs.specs.Order.{AreItems}
 use Rattle.node_defs.specs.Values.{AreItemValues, AreReferenceValues, HaveOneRun}
-use Rattle.plan_defs.specs.declared.plan.Homes.{Homes}
-use Rattle.plan_defs.specs.declared.plan.Plan.{Plan}
 use Rattle.image_defs.specs.declared.image.Image.{Image}
 use Rattle.image_defs.specs.Frames.{shown}
-use Rattle.image_build.specs.Built.{GivesItems}
 use Rattle.yse_compile.specs.Compiled.{ShowsReference}
 
 no_state : State
@@ -57,10 +54,3 @@ cells_show net timing nodes image stimulus are run refers gives = record {
       gives run.states run.exist c j (get_or nodes.printed j 0) (get_or run.states (c * timing.units) no_state) items number
       ∙ reference.same (c * timing.units) (get_or run.states (c * timing.units) no_state) (get_or reference.states (c * timing.units) no_state) (get_or nodes.printed j 0) (get_or net.printed j 0) items signals named
       ∙ sym (get_or-map (value_at (get_or reference.states (c * timing.units) no_state).row) net.printed j 0 Undef within)
-
-pub shows_reference : (net : Netlist) (timing : Timing) (nodes : NodeNet) (homes : Homes) (plan : Plan) (image : Image) (stimulus : Stimulus) → AreItems net timing nodes → HaveOneRun nodes timing stimulus
-    → ((values : List State) → AreItemValues nodes timing stimulus values → AreReferenceValues net timing stimulus nodes values)
-    → ((values : List State) → AreItemValues nodes timing stimulus values → GivesItems nodes homes plan timing stimulus values image)
-    → ShowsReference net timing stimulus image
-shows_reference net timing nodes homes plan image stimulus are run refers gives =
-    cells_show net timing nodes image stimulus are run refers (λ values valued. (gives values valued).cells)

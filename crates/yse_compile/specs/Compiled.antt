@@ -17,6 +17,10 @@ use Rattle.plan_defs.specs.Tables.{Fits}
 use Rattle.image_defs.specs.declared.image.Image.{Image}
 use Rattle.image_defs.specs.Frames.{shown}
 use Rattle.image_build.specs.Built.{IsBuilt}
+use Rattle.home_pick.specs.declared.pick.HomeNo.{HomeNo}
+use Rattle.home_pick.specs.declared.pick.HomeNo.TheVariants.{Bits as NoBits, Memory as NoRoom, Nodes as ManyNodes}
+use Rattle.slot_plan.specs.declared.fit.PlanNo.{PlanNo}
+use Rattle.slot_plan.specs.declared.fit.PlanNo.TheVariants.{Slots as ManySlots, Functions as ManyFunctions, Memory as NoMemory}
 use Rattle.yse_compile.specs.declared.compiler.Compiled.{Compiled}
 use Rattle.yse_compile.specs.declared.compiler.CompNo.{CompNo}
 use Rattle.yse_compile.specs.declared.compiler.CompNo.TheVariants.{Loop, Bits, Slots, Functions, Memory, Nodes}
@@ -48,6 +52,17 @@ IsRight net machine timing (Slots needed limit) = LacksSlots net machine timing 
 IsRight net machine timing (Functions port needed limit) = LacksFunctions net machine timing port needed limit
 IsRight net machine timing Memory = Unit {0}
 IsRight net machine timing (Nodes needed limit) = LacksNodes net machine timing needed limit
+
+-- the refusal where there are no homes, and where there is no plan
+abbrev pub of_homes : HomeNo → CompNo
+of_homes (NoBits block needed left) = Bits block needed left
+of_homes NoRoom = Memory
+of_homes (ManyNodes needed limit) = Nodes needed limit
+
+abbrev pub of_plan : PlanNo → CompNo
+of_plan (ManySlots needed limit) = Slots needed limit
+of_plan (ManyFunctions port needed limit) = Functions port needed limit
+of_plan NoMemory = Memory
 
 -- the refusal says that the machine is too small for the design
 abbrev pub IsOverfull : CompNo → Type 0

@@ -1,32 +1,31 @@
-//! From a netlist to an image, at plain homes or at better ones.
+//! The homes that a choice uses, and the plan by which they fit.
 
-ghost use Rattle.std.specs.Prelude.{◌≡◌, IfOk, IfErr, OnOk};
+ghost use Rattle.std.specs.Prelude.{◌≡◌, ◌≤◌, ◌⊎◌, IfOk, IfErr, IfSome, IsNone};
 ghost use Rattle.home_better.specs.Crossings.{crossings};
+ghost use Rattle.limits.specs.declared.TheConstants.{MAX_SLOTS};
 ghost use Rattle.machine_text.specs.Machines.{IsValid as IsValidMachine};
 ghost use Rattle.net_defs.specs.declared.homes.HomeChoice.TheVariants.{Plain, Better};
-ghost use Rattle.net_defs.specs.declared.stimulus.Stimulus.{Stimulus};
-ghost use Rattle.net_defs.specs.Valid.{IsValid, IsValidTiming};
 ghost use Rattle.node_defs.specs.WellFormed.{IsWellFormed};
 ghost use Rattle.plan_defs.specs.Homes.{AreHomes};
-ghost use Rattle.plan_defs.specs.Picks.{ArePicked};
 ghost use Rattle.plan_defs.specs.Slots.{IsFirstFitPlan};
 ghost use Rattle.plan_defs.specs.Tables.{Fits};
-ghost use Rattle.yse_compile.specs.Chosen.{FitsBy, FitsEither, HomesFit, IsChosen};
-ghost use Rattle.yse_compile.specs.Compiled.{ShowsReference, IsRight};
-ghost use Rattle.yse_compile.specs.Designs.{DesignFits};
-ghost use Rattle.yse_compile.specs.code.Housing.{AreAtHome, AreImproved};
-ghost use Rattle.yse_compile.specs.declared.compiler.CompNo.TheVariants as no;
+ghost use Rattle.slot_plan.specs.Refusals.{IsRight};
+ghost use Rattle.slot_plan.specs.declared.fit.PlanNo.TheVariants as no;
+ghost use Rattle.yse_compile.specs.Chosen.{HomesFit};
+ghost use Rattle.yse_compile.specs.code.Passes.{AreHomesOn, AreHoused, IsBestUnfit, IsFitted};
 
-use crate::compiler::{CompNo, Compiled};
-use crate::law::either_fits;
-use crate::steps::{Housed, at_home, compile_at, plan_if_fits, routed};
+use crate::compiler::Compiled;
+use crate::law::planned_or_refused;
+use crate::passes::{Housed, Planned, plan};
 use home_better::law::crossings_are_readers;
 use home_better::{Improved, better};
 use machine_text::Machine;
-use net_defs::{HomeChoice, Netlist, Timing};
-use plan_defs::Plan;
+use net_defs::HomeChoice;
+use node_defs::NodeNet;
+use plan_defs::{Homes, Plan};
 use plan_text::crossings as crossing_count;
 use seen_list::Memory;
+use slot_plan::{PlanNo, first_fit};
 use std::alloc::Global;
 
 /// A compiled design, and which homes it has.
@@ -42,69 +41,63 @@ pub struct Chosen {
     pub better: bool,
 }
 
-/// Compiles a netlist for a machine, in a timing, at the homes of the choice. Better homes are used where
-/// they fit the machine, and else the plain ones where they fit; slots and functions are refused with the
-/// values of the plain homes.
-pub fn compile_with(
+/// What is told of homes: the counts of their crossings, and whether they are the better ones.
+#[derive(Clone, Copy)]
+pub(crate) struct Counts {
+    pub(crate) before: u64,
+    pub(crate) after: u64,
+    pub(crate) better: bool,
+}
+
+/// What is planned at the homes of a choice.
+#[derive(Drop)]
+pub(crate) struct Fitted {
+    pub(crate) planned: Planned,
+    pub(crate) counts: Counts,
+}
+
+/// The items at the homes of the choice, in their plan.
+pub(crate) fn fit(
     alloc: Global,
-    net: &Netlist,
     machine: &Machine,
-    timing: &Timing,
+    housed: Housed,
     choice: HomeChoice,
-) -> Result<Chosen, CompNo>
-    requires net { IsValid net.now }
+) -> Result<Fitted, PlanNo>
     requires machine { IsValidMachine machine.now }
-    requires timing { IsValidTiming timing.now }
-    ensures shown { IfOk result (λ chosen. (stimulus : Stimulus) → ShowsReference net.now timing.now stimulus chosen.compiled.image) }
-    ensures chosen { IfOk result (IsChosen net.now machine.now timing.now choice) }
-    ensures refused { IfErr result (IsRight net.now machine.now timing.now) }
-    ensures fits { FitsBy choice net.now machine.now timing.now → IfErr result (λ refusal. refusal ≡ no.Memory) }
-    ensures fitted { OnOk result (FitsBy choice net.now machine.now timing.now) }
+    requires housed { AreHoused machine.now housed }
+    ensures fitted { IfOk result (IsFitted choice machine.now housed) }
+    ensures refused { IfErr result (IsRight housed.nodes housed.homes machine.now) }
+    ensures unfit { IfErr result (λ refusal. (refusal ≡ no.Memory) ⊎ IsBestUnfit choice housed.nodes machine.now housed.homes) }
 {
-    either_fits();
-    match at_home(alloc, net, machine, timing) {
-        Ok(housed) => match choice {
-            HomeChoice::Plain => at_plain(alloc, net, machine, timing, housed),
-            HomeChoice::Better => at_better(alloc, net, machine, timing, housed),
-        },
-        Err(refusal) => Err(refusal),
+    match choice {
+        HomeChoice::Plain => at_plain(alloc, machine, housed),
+        HomeChoice::Better => at_better(alloc, machine, housed),
     }
 }
 
-/// The design at plain homes.
-fn at_plain(
-    alloc: Global,
-    net: &Netlist,
-    machine: &Machine,
-    timing: &Timing,
-    housed: Housed,
-) -> Result<Chosen, CompNo>
-    requires net { IsValid net.now }
+/// The items at their plain homes.
+fn at_plain(alloc: Global, machine: &Machine, housed: Housed) -> Result<Fitted, PlanNo>
     requires machine { IsValidMachine machine.now }
-    requires timing { IsValidTiming timing.now }
-    requires housed { AreAtHome net.now machine.now timing.now housed }
-    ensures shown { IfOk result (λ chosen. (stimulus : Stimulus) → ShowsReference net.now timing.now stimulus chosen.compiled.image) }
-    ensures chosen { IfOk result (IsChosen net.now machine.now timing.now Plain) }
-    ensures refused { IfErr result (IsRight net.now machine.now timing.now) }
-    ensures fits { DesignFits net.now machine.now timing.now → IfErr result (λ refusal. refusal ≡ no.Memory) }
-    ensures fitted { OnOk result (DesignFits net.now machine.now timing.now) }
+    requires housed { AreHoused machine.now housed }
+    ensures fitted { IfOk result (IsFitted Plain machine.now housed) }
+    ensures refused { IfErr result (IsRight housed.nodes housed.homes machine.now) }
 {
     let count = match count_of(alloc, &housed) {
         Ok(count) => count,
         Err(_) => {
             drop(housed);
-            return Err(CompNo::Memory);
+            return Err(PlanNo::Memory);
         }
     };
-    match compile_at(alloc, net, machine, timing, housed) {
-        Ok(compiled) => Ok(Chosen {
-            compiled,
+    let planned = plan(alloc, machine, housed)?;
+    Ok(Fitted {
+        planned,
+        counts: Counts {
             before: count,
             after: count,
             better: false,
-        }),
-        Err(refusal) => Err(refusal),
-    }
+        },
+    })
 }
 
 /// The crossings of plain homes.
@@ -117,120 +110,82 @@ fn count_of(alloc: Global, housed: &Housed) -> Result<u64, Memory>
     crossing_count(alloc, &housed.nodes, &housed.homes)
 }
 
-/// The design at better homes where they fit, and else at the plain ones.
-fn at_better(
-    alloc: Global,
-    net: &Netlist,
-    machine: &Machine,
-    timing: &Timing,
-    housed: Housed,
-) -> Result<Chosen, CompNo>
-    requires net { IsValid net.now }
+/// The items at better homes where they fit, and else at the plain ones.
+fn at_better(alloc: Global, machine: &Machine, housed: Housed) -> Result<Fitted, PlanNo>
     requires machine { IsValidMachine machine.now }
-    requires timing { IsValidTiming timing.now }
-    requires housed { AreAtHome net.now machine.now timing.now housed }
-    ensures shown { IfOk result (λ chosen. (stimulus : Stimulus) → ShowsReference net.now timing.now stimulus chosen.compiled.image) }
-    ensures chosen { IfOk result (IsChosen net.now machine.now timing.now Better) }
-    ensures refused { IfErr result (IsRight net.now machine.now timing.now) }
-    ensures fits { FitsEither net.now machine.now timing.now → IfErr result (λ refusal. refusal ≡ no.Memory) }
-    ensures fitted { OnOk result (FitsEither net.now machine.now timing.now) }
+    requires housed { AreHoused machine.now housed }
+    ensures fitted { IfOk result (IsFitted Better machine.now housed) }
+    ensures refused { IfErr result (IsRight housed.nodes housed.homes machine.now) }
+    ensures unfit { IfErr result (λ refusal. (refusal ≡ no.Memory) ⊎ IsBestUnfit Better housed.nodes machine.now housed.homes) }
 {
-    let improved = match better_homes(alloc, machine, &housed) {
+    let improved = match better(alloc, &housed.nodes, &housed.homes, machine) {
         Ok(improved) => improved,
         Err(_) => {
             drop(housed);
-            return Err(CompNo::Memory);
+            return Err(PlanNo::Memory);
         }
     };
-    match plan_if_fits(alloc, machine, &housed.nodes, &improved.homes) {
-        Ok(Some(plan)) => use_better(alloc, net, machine, timing, housed, improved, plan),
-        Ok(None) => keep_plain(alloc, net, machine, timing, housed, improved),
+    let Improved {
+        homes,
+        before,
+        after,
+    } = improved;
+    match plan_if_fits(alloc, machine, &housed.nodes, &homes) {
+        Ok(Some(plan)) => {
+            drop(housed.homes);
+            Ok(Fitted {
+                planned: Planned {
+                    housed: Housed {
+                        nodes: housed.nodes,
+                        homes,
+                    },
+                    plan,
+                },
+                counts: Counts {
+                    before,
+                    after,
+                    better: true,
+                },
+            })
+        }
+        Ok(None) => {
+            drop(homes);
+            let planned = plan(alloc, machine, housed)?;
+            Ok(Fitted {
+                planned,
+                counts: Counts {
+                    before,
+                    after,
+                    better: false,
+                },
+            })
+        }
         Err(_) => {
-            drop(improved);
+            drop(homes);
             drop(housed);
-            Err(CompNo::Memory)
+            Err(PlanNo::Memory)
         }
     }
 }
 
-/// Better homes, from the plain ones.
-fn better_homes(alloc: Global, machine: &Machine, housed: &Housed) -> Result<Improved, Memory>
-    requires formed { IsWellFormed housed.now.nodes }
-    requires homes { AreHomes housed.now.nodes housed.now.homes }
-    requires picked { ArePicked housed.now.nodes machine.now housed.now.homes }
-    ensures { IfOk result (AreImproved machine.now housed.now) }
-{
-    better(alloc, &housed.nodes, &housed.homes, machine)
-}
-
-/// The design at better homes, which fit by this plan.
-fn use_better(
+/// The plan of the items at these homes, or none where it does not fit.
+fn plan_if_fits(
     alloc: Global,
-    net: &Netlist,
     machine: &Machine,
-    timing: &Timing,
-    housed: Housed,
-    improved: Improved,
-    plan: Plan,
-) -> Result<Chosen, CompNo>
-    requires net { IsValid net.now }
-    requires machine { IsValidMachine machine.now }
-    requires timing { IsValidTiming timing.now }
-    requires housed { AreAtHome net.now machine.now timing.now housed }
-    requires improved { AreImproved machine.now housed improved }
-    requires plan { IsFirstFitPlan housed.nodes improved.homes plan }
-    requires fit { Fits housed.nodes improved.homes machine.now plan }
-    ensures shown { IfOk result (λ chosen. (stimulus : Stimulus) → ShowsReference net.now timing.now stimulus chosen.compiled.image) }
-    ensures chosen { IfOk result (IsChosen net.now machine.now timing.now Better) }
-    ensures refused { IfErr result (λ refusal. refusal ≡ no.Memory) }
-    ensures fitted { OnOk result (FitsEither net.now machine.now timing.now) }
+    nodes: &NodeNet,
+    homes: &Homes,
+) -> Result<Option<Plan>, Memory>
+    requires nodes { IsWellFormed nodes.now }
+    requires homes { AreHomesOn nodes.now machine.now homes.now }
+    ensures plan { IfOk result (λ found. IfSome found (IsFirstFitPlan nodes.now homes.now)) }
+    ensures fits { IfOk result (λ found. IfSome found (Fits nodes.now homes.now machine.now)) }
+    ensures none { IfOk result (λ found. IsNone found → HomesFit nodes.now machine.now homes.now → ⊥) }
 {
-    drop(housed.homes);
-    let rehoused = Housed {
-        nodes: housed.nodes,
-        homes: improved.homes,
-    };
-    match routed(alloc, net, timing, rehoused, plan) {
-        Ok(compiled) => Ok(Chosen {
-            compiled,
-            before: improved.before,
-            after: improved.after,
-            better: true,
-        }),
-        Err(_) => Err(CompNo::Memory),
-    }
-}
-
-/// The design at plain homes, where better ones do not fit.
-fn keep_plain(
-    alloc: Global,
-    net: &Netlist,
-    machine: &Machine,
-    timing: &Timing,
-    housed: Housed,
-    improved: Improved,
-) -> Result<Chosen, CompNo>
-    requires net { IsValid net.now }
-    requires machine { IsValidMachine machine.now }
-    requires timing { IsValidTiming timing.now }
-    requires housed { AreAtHome net.now machine.now timing.now housed }
-    requires improved { AreImproved machine.now housed improved }
-    requires unfit { HomesFit housed.nodes machine.now improved.homes → ⊥ }
-    ensures shown { IfOk result (λ chosen. (stimulus : Stimulus) → ShowsReference net.now timing.now stimulus chosen.compiled.image) }
-    ensures chosen { IfOk result (IsChosen net.now machine.now timing.now Better) }
-    ensures refused { IfErr result (IsRight net.now machine.now timing.now) }
-    ensures fits { FitsEither net.now machine.now timing.now → IfErr result (λ refusal. refusal ≡ no.Memory) }
-    ensures fitted { OnOk result (FitsEither net.now machine.now timing.now) }
-{
-    either_fits();
-    drop(improved.homes);
-    match compile_at(alloc, net, machine, timing, housed) {
-        Ok(compiled) => Ok(Chosen {
-            compiled,
-            before: improved.before,
-            after: improved.after,
-            better: false,
-        }),
-        Err(refusal) => Err(refusal),
+    planned_or_refused();
+    match first_fit(alloc, nodes, homes, machine) {
+        Ok(plan) => Ok(Some(plan)),
+        Err(PlanNo::Slots { .. }) => Ok(None),
+        Err(PlanNo::Functions { .. }) => Ok(None),
+        Err(PlanNo::Memory) => Err(Memory),
     }
 }

@@ -1,21 +1,26 @@
-//! From a netlist to an image.
+//! From a netlist to an image: the passes, one after another.
 
-ghost use Rattle.std.specs.Prelude.{◌≡◌, IfOk, IfErr};
+ghost use Rattle.std.specs.Prelude.{◌≡◌, IfOk, IfErr, OnOk};
 ghost use Rattle.machine_text.specs.Machines.{IsValid as IsValidMachine};
 ghost use Rattle.net_defs.specs.declared.stimulus.Stimulus.{Stimulus};
 ghost use Rattle.net_defs.specs.Valid.{IsValid, IsValidTiming};
+ghost use Rattle.yse_compile.specs.Chosen.{FitsBy, IsChosen};
 ghost use Rattle.yse_compile.specs.Designs.{DesignFits};
 ghost use Rattle.yse_compile.specs.Compiled.{IsCompiled, ShowsReference, IsRight};
 ghost use Rattle.yse_compile.specs.declared.compiler.CompNo.TheVariants as no;
 
-use crate::law::either_fits;
-use crate::steps::{at_home, compile_at};
+use crate::choose::{Chosen, fit};
+use crate::law::refusals_are_right;
+use crate::matching::matching_images_show;
+use crate::passes::{house, image_of, items_of, plan, route};
+use home_pick::HomeNo;
 use image_defs::Image;
 use machine_text::Machine;
-use net_defs::{Netlist, Timing};
+use net_defs::{HomeChoice, Netlist, Timing};
 use node_defs::NodeNet;
 use plan_defs::{Homes, Plan, Switch};
 use seen_list::{List, Memory};
+use slot_plan::PlanNo;
 use std::alloc::Global;
 
 /// A compiled design.
@@ -65,6 +70,52 @@ impl From<Memory> for CompNo {
     }
 }
 
+impl From<HomeNo> for CompNo {
+    ghost use Rattle.std.specs.Prelude.{◌≡◌};
+    ghost use Rattle.yse_compile.specs.Compiled.{of_homes};
+
+    ghost from_gives = { λ no e. e ≡ of_homes no };
+
+    fn from(no: HomeNo) -> CompNo {
+        match no {
+            HomeNo::Bits {
+                block,
+                needed,
+                left,
+            } => CompNo::Bits {
+                block,
+                needed,
+                left,
+            },
+            HomeNo::Memory => CompNo::Memory,
+            HomeNo::Nodes { needed, limit } => CompNo::Nodes { needed, limit },
+        }
+    }
+}
+
+impl From<PlanNo> for CompNo {
+    ghost use Rattle.std.specs.Prelude.{◌≡◌};
+    ghost use Rattle.yse_compile.specs.Compiled.{of_plan};
+
+    ghost from_gives = { λ no e. e ≡ of_plan no };
+
+    fn from(no: PlanNo) -> CompNo {
+        match no {
+            PlanNo::Slots { needed, limit } => CompNo::Slots { needed, limit },
+            PlanNo::Functions {
+                port,
+                needed,
+                limit,
+            } => CompNo::Functions {
+                port,
+                needed,
+                limit,
+            },
+            PlanNo::Memory => CompNo::Memory,
+        }
+    }
+}
+
 /// Compiles a netlist for a machine, in a timing, at plain homes. The image shows, for every stimulus, the cells of
 /// the netlist's reference simulation. A design that fits is refused for want of memory alone, and
 /// one that is compiled fits.
@@ -82,9 +133,47 @@ pub fn compile(
     ensures refused { IfErr result (IsRight net.now machine.now timing.now) }
     ensures fits { DesignFits net.now machine.now timing.now → IfErr result (λ refusal. refusal ≡ no.Memory) }
 {
-    either_fits();
-    match at_home(alloc, net, machine, timing) {
-        Ok(housed) => compile_at(alloc, net, machine, timing, housed),
-        Err(refusal) => Err(refusal),
-    }
+    refusals_are_right();
+    matching_images_show();
+    let nodes = items_of(alloc, net, timing)?;
+    let housed = house(alloc, machine, nodes)?;
+    let planned = plan(alloc, machine, housed)?;
+    let routed = route(alloc, planned)?;
+    let compiled = image_of(alloc, timing, routed)?;
+    Ok(compiled)
+}
+
+/// Compiles a netlist for a machine, in a timing, at the homes of the choice. Better homes are used where
+/// they fit the machine, and else the plain ones where they fit; slots and functions are refused with the
+/// values of the plain homes.
+pub fn compile_with(
+    alloc: Global,
+    net: &Netlist,
+    machine: &Machine,
+    timing: &Timing,
+    choice: HomeChoice,
+) -> Result<Chosen, CompNo>
+    requires net { IsValid net.now }
+    requires machine { IsValidMachine machine.now }
+    requires timing { IsValidTiming timing.now }
+    ensures shown { IfOk result (λ chosen. (stimulus : Stimulus) → ShowsReference net.now timing.now stimulus chosen.compiled.image) }
+    ensures chosen { IfOk result (IsChosen net.now machine.now timing.now choice) }
+    ensures refused { IfErr result (IsRight net.now machine.now timing.now) }
+    ensures fits { FitsBy choice net.now machine.now timing.now → IfErr result (λ refusal. refusal ≡ no.Memory) }
+    ensures fitted { OnOk result (FitsBy choice net.now machine.now timing.now) }
+{
+    refusals_are_right();
+    matching_images_show();
+    let nodes = items_of(alloc, net, timing)?;
+    let housed = house(alloc, machine, nodes)?;
+    let fitted = fit(alloc, machine, housed, choice)?;
+    let counts = fitted.counts;
+    let routed = route(alloc, fitted.planned)?;
+    let compiled = image_of(alloc, timing, routed)?;
+    Ok(Chosen {
+        compiled,
+        before: counts.before,
+        after: counts.after,
+        better: counts.better,
+    })
 }

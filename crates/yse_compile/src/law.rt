@@ -9,6 +9,8 @@ ghost use Rattle.image_defs.specs.declared.image.Image.{Image};
 ghost use Rattle.machine_text.specs.declared.machine.Machine.{Machine};
 ghost use Rattle.machine_text.specs.Machines.{IsValid as IsValidMachine};
 ghost use Rattle.home_better.specs.Better.{IsBetter};
+ghost use Rattle.home_pick.specs.declared.pick.HomeNo.{HomeNo};
+ghost use Rattle.home_pick.specs.Refusals.{IsRight as LacksHomes};
 ghost use Rattle.home_better.specs.Crossings.{crossings};
 ghost use Rattle.net_defs.specs.declared.homes.HomeChoice.{HomeChoice};
 ghost use Rattle.net_defs.specs.declared.netlist.Netlist.{Netlist};
@@ -26,13 +28,17 @@ ghost use Rattle.plan_defs.specs.Picks.{ArePicked, FindsNoPort, HasTooManyNodes}
 ghost use Rattle.plan_defs.specs.Slots.{IsFirstFitPlan};
 ghost use Rattle.plan_defs.specs.Switches.{IsSwitch};
 ghost use Rattle.plan_defs.specs.Tables.{UsesTables};
-ghost use Rattle.slot_plan.specs.Refusals.{IsCrowded, IsLong};
+ghost use Rattle.slot_plan.specs.declared.fit.PlanNo.{PlanNo};
+ghost use Rattle.slot_plan.specs.declared.fit.PlanNo.TheVariants as no_plan;
+ghost use Rattle.slot_plan.specs.Refusals.{IsCrowded, IsLong, IsRight as LacksPlan};
 ghost use Rattle.yse_compile.specs.Claims.{AreClaimsOf};
 ghost use Rattle.yse_compile.specs.Chosen.{FitsBy, FitsEither, HomesFit, IsChosen, IsDesign, IsUsed};
 ghost use Rattle.yse_compile.specs.declared.choose.Chosen.{Chosen};
 ghost use Rattle.yse_compile.specs.declared.compiler.CompNo.{CompNo};
+ghost use Rattle.yse_compile.specs.declared.compiler.CompNo.TheVariants as no;
 ghost use Rattle.yse_compile.specs.declared.compiler.Compiled.{Compiled};
-ghost use Rattle.yse_compile.specs.Compiled.{IsCompiled, IsRight, IsOverfull};
+ghost use Rattle.yse_compile.specs.Compiled.{IsCompiled, IsRight, IsOverfull, of_homes, of_plan};
+ghost use Rattle.yse_compile.specs.code.Passes.{IsBestUnfit};
 ghost use Rattle.yse_compile.specs.Designs.{IsAcyclic, DesignFits};
 ghost use Rattle.yse_compile.specs.Designs.{LacksBits, LacksNodes, LacksSlots, LacksFunctions};
 
@@ -310,6 +316,27 @@ pub fn either_fits()
     nodes_first();
     one_homes();
     one_better_homes();
+}
+
+/// A law: a refusal of homes or of a plan is right of the whole design, and of one that fits it is for want of
+/// memory. It does nothing.
+pub(crate) fn refusals_are_right()
+    ensures either { (choice : HomeChoice) (net : Netlist) (machine : Machine) (timing : Timing) → FitsBy choice net machine timing
+        → FitsEither net machine timing }
+    ensures homes { (net : Netlist) (machine : Machine) (timing : Timing) (nodes : NodeNet) → IsAcyclic net timing
+        → AreItems net timing nodes → (refusal : HomeNo) → LacksHomes nodes machine refusal
+        → IsRight net machine timing (of_homes refusal) × (FitsEither net machine timing → of_homes refusal ≡ no.Memory) }
+    ensures plan { (choice : HomeChoice) (net : Netlist) (machine : Machine) (timing : Timing) (nodes : NodeNet) (plain : Homes)
+        → IsValid net → IsAcyclic net timing → AreItems net timing nodes → ArePicked nodes machine plain
+        → (refusal : PlanNo) → LacksPlan nodes plain machine refusal
+        → (refusal ≡ no_plan.Memory) ⊎ IsBestUnfit choice nodes machine plain
+        → IsRight net machine timing (of_plan refusal) × (FitsBy choice net machine timing → of_plan refusal ≡ no.Memory) }
+{
+    items_are_well_formed();
+    planned_or_refused();
+    fits_slots();
+    fits_functions();
+    either_fits();
 }
 
 /// A law: without a loop, a design fits a machine by a choice of homes, or it does not and a refusal is

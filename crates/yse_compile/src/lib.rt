@@ -9,9 +9,9 @@ mod compiler;
 pub mod inputs;
 pub mod law;
 pub mod matching;
-mod steps;
+mod passes;
 mod words;
 
-pub use choose::{Chosen, compile_with};
+pub use choose::Chosen;
 pub use claimed::claims;
-pub use compiler::{CompNo, Compiled, compile};
+pub use compiler::{CompNo, Compiled, compile, compile_with};

@@ -1,5 +1,5 @@
 use Rattle.std.proofs.Common.{refl}
-use Rattle.yse_compile.proofs.steps.items_of.Goals as goal
+use Rattle.yse_compile.proofs.passes.items_of.Goals as goal
 
 pub map_nodes-requires-clause-ranked : goal.map_nodes-requires-clause-ranked
 map_nodes-requires-clause-ranked c = c.in-Ok.ensures.ranks
@@ -16,3 +16,6 @@ returns-in-Err-Loop-clause-either c =
 
 pub returns-in-Ok-map_nodes-clause-acyclic : goal.returns-in-Ok-map_nodes-clause-acyclic
 returns-in-Ok-map_nodes-clause-acyclic c = c.in-Ok.ensures.acyclic
+
+pub returns-in-Ok-map_nodes-clause-formed : goal.returns-in-Ok-map_nodes-clause-formed
+returns-in-Ok-map_nodes-clause-formed c = c.items_are_well_formed.ensures c.args.net.now c.args.timing.now c.in-Ok-map_nodes.nodes c.requires.net c.in-Ok-map_nodes.ensures.items

@@ -1,0 +1,90 @@
+use Rattle.std.proofs.Common.{ap, refl}
+use Rattle.std.proofs.lemmas.Result.{err_from_is_err_and}
+use Rattle.yse_compile.proofs.ChoiceLemmas.{used_fits}
+use Rattle.yse_compile.proofs.compiler.compile_with.Goals as goal
+
+pub returns-in_err-nodes-clause-refused : goal.returns-in_err-nodes-clause-refused
+returns-in_err-nodes-clause-refused c =
+    let p = err_from_is_err_and c.from_residual.result c.from_residual.ensures.1 in
+    rw (p.1, p.2) (c.in_err-nodes.ensures.refused c.args.machine.now)
+
+pub returns-clause-chosen : goal.returns-clause-chosen
+returns-clause-chosen c =
+    let fitted = c.in_ok-fitted.ensures.fitted in
+    let same = rw (c.in_ok-routed.ensures.same, fitted.same) at c.in_ok-compiled.ensures.same in
+    rw same (record {
+      plain = c.in_ok-housed.housed.homes;
+      picked = c.in_ok-housed.ensures.housed.picked;
+      design = record {
+        acyclic = c.in_ok-nodes.ensures.acyclic;
+        items = rw c.in_ok-housed.ensures.same c.in_ok-nodes.ensures.items;
+        logic = fitted.on.logic;
+        array = fitted.on.array;
+        homes = fitted.on.are;
+        memories = fitted.on.memories;
+        first_fit = rw fitted.same at fitted.planned.first_fit;
+        fits = fitted.fits;
+        routed = rw fitted.same at c.in_ok-routed.ensures.switch;
+        built = rw same at c.in_ok-compiled.ensures.built;
+      };
+      used = fitted.used _ refl;
+    })
+
+pub returns-clause-fitted : goal.returns-clause-fitted
+returns-clause-fitted c =
+    let fitted = c.in_ok-fitted.ensures.fitted in
+    let compiled = c.in_ok-compiled.compiled in
+    let same = rw c.in_ok-routed.ensures.same at c.in_ok-compiled.ensures.same in
+    used_fits c.args.net.now c.args.machine.now c.args.timing.now c.in_ok-housed.housed.nodes c.in_ok-housed.housed.homes c.args.choice _ c.in_ok-nodes.ensures.acyclic
+    (rw c.in_ok-housed.ensures.same c.in_ok-nodes.ensures.items) c.in_ok-housed.ensures.housed.picked
+    (rw (ap (λ made. made.homes) same) (record { plan = c.in_ok-fitted.fitted.planned.plan; first_fit = rw fitted.same at fitted.planned.first_fit; fits = fitted.fits }))
+    (fitted.used compiled (ap (λ made. made.homes) same))
+
+pub fit-requires-clause-housed : goal.fit-requires-clause-housed
+fit-requires-clause-housed c = c.in_ok-housed.ensures.housed
+
+pub route-requires : goal.route-requires
+route-requires c = c.in_ok-fitted.ensures.fitted.planned
+
+pub image_of-requires-clause-planned : goal.image_of-requires-clause-planned
+image_of-requires-clause-planned c = rw c.in_ok-routed.ensures.same c.in_ok-fitted.ensures.fitted.planned
+
+pub image_of-requires-clause-switch : goal.image_of-requires-clause-switch
+image_of-requires-clause-switch c = rw c.in_ok-routed.ensures.same c.in_ok-routed.ensures.switch
+
+pub returns-in_err-nodes-clause-fits : goal.returns-in_err-nodes-clause-fits
+returns-in_err-nodes-clause-fits c fits =
+    let p = err_from_is_err_and c.from_residual.result c.from_residual.ensures.1 in
+    rw (p.1, p.2) (c.in_err-nodes.ensures.either c.args.machine.now (c.refusals_are_right.ensures.either c.args.choice c.args.net.now c.args.machine.now c.args.timing.now fits))
+
+pub returns-in_err-housed-clause-refused : goal.returns-in_err-housed-clause-refused
+returns-in_err-housed-clause-refused c =
+    let p = err_from_is_err_and c.from_residual-in_err-housed.result c.from_residual-in_err-housed.ensures.1 in
+    rw (p.1, p.2)
+    (c.refusals_are_right.ensures.homes c.args.net.now c.args.machine.now c.args.timing.now c.in_ok-nodes.nodes c.in_ok-nodes.ensures.acyclic c.in_ok-nodes.ensures.items _ c.in_err-housed.ensures.refused).0
+
+pub returns-in_err-housed-clause-fits : goal.returns-in_err-housed-clause-fits
+returns-in_err-housed-clause-fits c fits =
+    let p = err_from_is_err_and c.from_residual-in_err-housed.result c.from_residual-in_err-housed.ensures.1 in
+    rw (p.1, p.2) ((c.refusals_are_right.ensures.homes c.args.net.now c.args.machine.now c.args.timing.now c.in_ok-nodes.nodes c.in_ok-nodes.ensures.acyclic c.in_ok-nodes.ensures.items _ c.in_err-housed.ensures.refused).1
+    (c.refusals_are_right.ensures.either c.args.choice c.args.net.now c.args.machine.now c.args.timing.now fits))
+
+pub returns-in_err-fitted-clause-refused : goal.returns-in_err-fitted-clause-refused
+returns-in_err-fitted-clause-refused c =
+    let p = err_from_is_err_and c.from_residual-in_err-fitted.result c.from_residual-in_err-fitted.ensures.1 in
+    rw (p.1, p.2) (c.refusals_are_right.ensures.plan c.args.choice c.args.net.now c.args.machine.now c.args.timing.now c.in_ok-housed.housed.nodes c.in_ok-housed.housed.homes c.requires.net
+    c.in_ok-nodes.ensures.acyclic (rw c.in_ok-housed.ensures.same c.in_ok-nodes.ensures.items) c.in_ok-housed.ensures.housed.picked _ c.in_err-fitted.ensures.refused c.in_err-fitted.ensures.unfit).0
+
+pub returns-in_err-fitted-clause-fits : goal.returns-in_err-fitted-clause-fits
+returns-in_err-fitted-clause-fits c fits =
+    let p = err_from_is_err_and c.from_residual-in_err-fitted.result c.from_residual-in_err-fitted.ensures.1 in
+    rw (p.1, p.2) ((c.refusals_are_right.ensures.plan c.args.choice c.args.net.now c.args.machine.now c.args.timing.now c.in_ok-housed.housed.nodes c.in_ok-housed.housed.homes c.requires.net
+    c.in_ok-nodes.ensures.acyclic (rw c.in_ok-housed.ensures.same c.in_ok-nodes.ensures.items) c.in_ok-housed.ensures.housed.picked _ c.in_err-fitted.ensures.refused c.in_err-fitted.ensures.unfit).1 fits)
+
+pub returns-clause-shown : goal.returns-clause-shown
+returns-clause-shown c =
+    let fitted = c.in_ok-fitted.ensures.fitted in
+    let same = rw (c.in_ok-routed.ensures.same, fitted.same) at c.in_ok-compiled.ensures.same in
+    let built = c.in_ok-compiled.ensures.built in
+    c.matching_images_show.ensures c.args.net.now c.args.timing.now c.in_ok-compiled.compiled.nodes c.in_ok-compiled.compiled.image built.claims c.requires.net
+    (rw (ap (λ made. made.nodes) same, c.in_ok-housed.ensures.same) c.in_ok-nodes.ensures.items) built.fits built.matches
