@@ -17,8 +17,8 @@ ghost use Rattle.yse_compile.specs.code.Passes.{AreHomesOn, AreHoused, IsBestUnf
 use crate::compiler::Compiled;
 use crate::law::planned_or_refused;
 use crate::passes::{Housed, Planned, plan};
+use home_better::better;
 use home_better::law::crossings_are_readers;
-use home_better::{Improved, better};
 use machine_text::Machine;
 use net_defs::HomeChoice;
 use node_defs::NodeNet;
@@ -125,43 +125,32 @@ fn at_better(alloc: Global, machine: &Machine, housed: Housed) -> Result<Fitted,
             return Err(PlanNo::Memory);
         }
     };
-    let Improved {
-        homes,
-        before,
-        after,
-    } = improved;
-    match plan_if_fits(alloc, machine, &housed.nodes, &homes) {
+    let counts = Counts {
+        before: improved.before,
+        after: improved.after,
+        better: true,
+    };
+    match plan_if_fits(alloc, machine, &housed.nodes, &improved.homes) {
         Ok(Some(plan)) => {
             drop(housed.homes);
-            Ok(Fitted {
-                planned: Planned {
-                    housed: Housed {
-                        nodes: housed.nodes,
-                        homes,
-                    },
-                    plan,
-                },
-                counts: Counts {
-                    before,
-                    after,
-                    better: true,
-                },
-            })
+            let housed = Housed {
+                nodes: housed.nodes,
+                homes: improved.homes,
+            };
+            let planned = Planned { housed, plan };
+            Ok(Fitted { planned, counts })
         }
         Ok(None) => {
-            drop(homes);
+            drop(improved.homes);
             let planned = plan(alloc, machine, housed)?;
-            Ok(Fitted {
-                planned,
-                counts: Counts {
-                    before,
-                    after,
-                    better: false,
-                },
-            })
+            let counts = Counts {
+                better: false,
+                ..counts
+            };
+            Ok(Fitted { planned, counts })
         }
         Err(_) => {
-            drop(homes);
+            drop(improved);
             drop(housed);
             Err(PlanNo::Memory)
         }
