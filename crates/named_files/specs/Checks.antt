@@ -30,7 +30,7 @@ use Rattle.yse_compile.specs.Chosen.{FitsBy}
 use Rattle.yse_compile.specs.Compiled.{IsRight, IsOverfull}
 use Rattle.refusal_lines.specs.declared.status.Status.TheVariants as status
 use Rattle.refusal_lines.specs.Lines.{read_fault_line, too_long_line, machine_line, netlist_line, faults_line, loop_line, overfull_line, stimulus_line, cells_line, bits_limit_line, signals_line, lanes_line, order_line, list_line}
-use Rattle.named_files.specs.Outcome.{Outcome, done, refusal, out_of_memory}
+use Rattle.named_files.specs.Outcome.{Outcome, Turns, done, refusal, telling, out_of_memory}
 use Rattle.named_files.specs.Readings.{Reading}
 
 -- ---- chains
@@ -65,9 +65,13 @@ AfterFile file Next (reading ∷ readings) outcome = (reading.file ≡ file) × 
 abbrev pub Ends : (Outcome → Type 0) → List Reading → Outcome → Type 0
 Ends IsEnd readings outcome = (readings ≡ []) × (IsEnd outcome ⊎ (outcome ≡ out_of_memory))
 
--- such an output is written, and nothing is refused
+-- such an output is written, the gates are told of these turns, and nothing is refused
+abbrev pub WritesTold : Option Turns → (List ℕ → Type 0) → Outcome → Type 0
+WritesTold told IsOutput outcome = (output : List ℕ) × IsOutput output × (outcome ≡ telling told (done output))
+
+-- such an output is written, and no gate is told anything
 abbrev pub Writes : (List ℕ → Type 0) → Outcome → Type 0
-Writes IsOutput outcome = (output : List ℕ) × IsOutput output × (outcome ≡ done output)
+Writes IsOutput = WritesTold None IsOutput
 
 -- ---- what is checked
 

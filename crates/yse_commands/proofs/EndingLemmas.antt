@@ -4,11 +4,9 @@ use Rattle.yse_commands.specs.declared.output.Ending.{Ending}
 use Rattle.yse_commands.specs.declared.output.Output.{Output}
 use Rattle.yse_commands.specs.declared.output.Output.TheVariants as output
 use Rattle.refusal_lines.specs.declared.status.Status.TheVariants as status
-use Rattle.yse_commands.specs.code.Endings.{status_after, IsTold}
-use Rattle.yse_commands.specs.Outputs.{ending_in}
+use Rattle.yse_commands.specs.code.Endings.{ending_in, status_after, IsTold}
 use Rattle.yse_commands.specs.Ends.{MayWrite}
 use Rattle.yse_commands.specs.Outputs.{bytes_of}
-use Rattle.named_files.specs.Outcome.{done}
 use Rattle.yse_commands.specs.Refusals.{ended_with}
 use Rattle.edge_io.specs.Writing.{TakesLine}
 use Rattle.edge_io.proofs.WritingLemmas.{writes_none, tells_written}
@@ -28,24 +26,6 @@ ended_output (output.Unfinished trace ending) = refl
 ended_output (output.Written run) = refl
 ended_output (output.Lanes run) = refl
 ended_output (output.Lines lines) = refl
-
--- an output after which nothing is told is the whole one
-pub whole_output : (output : Output) → status_after (ending_in output) ≡ status.Done → ended_with output ≡ done (bytes_of output)
-whole_output (output.Text text) is = refl
-whole_output (output.Trace trace) is = refl
-whole_output (output.Unfinished trace ending) is = cc
-whole_output (output.Written run) is = refl
-whole_output (output.Lanes run) is = refl
-whole_output (output.Lines lines) is = refl
-
--- an output is no fault of writing by itself
-pub ended_no_fault : (output : Output) → (ended_with output).status ≡ status.WriteFault → ⊥
-ended_no_fault (output.Text text) is = cc
-ended_no_fault (output.Trace trace) is = cc
-ended_no_fault (output.Unfinished trace ending) is = cc
-ended_no_fault (output.Written run) is = cc
-ended_no_fault (output.Lanes traces) is = cc
-ended_no_fault (output.Lines lines) is = cc
 
 module _ {E : Type 0} (taken : E → Option (List ℕ)) (faults : E → ℕ) where
   -- nothing is told where nothing is to be told

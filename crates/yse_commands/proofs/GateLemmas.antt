@@ -1,13 +1,14 @@
--- Gates that are told nothing, and the visits of a run on the machine.
+-- The turns of a run on the machine are those of its image.
 use Rattle.machine_text.specs.Machines.{ports_of}
-use Rattle.std.proofs.Common.{◌≡◌, ◌∙◌, sym, ap, refl, ℕ, zero, suc, ◌+◌, ◌*◌, ◌≤◌, List, length, Option, Result, Ok, Err, arith}
+use Rattle.std.proofs.Common.{◌≡◌, ◌∙◌, sym, ap, refl, subst, inr, ℕ, ◌+◌, ◌*◌, List, length, Option, Some, Result, Ok, Err, arith}
 use Rattle.std.specs.Prelude.{min}
-use Rattle.std.proofs.Math.Nat.{le-mul_of_pos_right}
-use Rattle.machine_run.specs.Blocks.{AreVisitsOfRun, block_cycles, turns_of_blocks, window_of}
+use Rattle.machine_run.specs.Blocks.{AreVisitsOfRun, block_cycles, cycles_of_blocks, window_of}
+use Rattle.machine_run.specs.Visits.{AreVisitsOf}
 use Rattle.crew_run.specs.declared.gate.Gate as gate
+use Rattle.large_run.specs.Setting.{large_machine}
+use Rattle.cmd_words.specs.declared.command.RunWords.{RunWords}
 use Rattle.edge_io.specs.declared.writing.WriteNo.{WriteNo}
 use Rattle.image_defs.specs.declared.image.Image.{Image}
-use Rattle.machine_run.specs.Visits.{AreInPlace}
 use Rattle.machine_text.specs.declared.machine.Machine.{Machine}
 use Rattle.net_defs.specs.declared.homes.HomeChoice.{HomeChoice}
 use Rattle.net_defs.specs.declared.netlist.Netlist.{Netlist}
@@ -16,18 +17,8 @@ use Rattle.net_defs.specs.declared.timing.Timing.{Timing}
 use Rattle.net_defs.specs.Time.{cycle_count}
 use Rattle.net_defs.specs.Valid.{input_count}
 use Rattle.port_host.specs.Rows.{printed_sources}
-use Rattle.slot_words.specs.plain.Words.{turns_of}
-use Rattle.yse_commands.specs.declared.steps.Pace.{Pace}
-use Rattle.refusal_lines.specs.declared.refusal.Refusal.{Refusal}
 use Rattle.named_files.specs.Images.{IsImageOf, IsMachineImage}
-use Rattle.yse_commands.specs.Visited.{AreRunVisits, block_of}
-use Rattle.yse_commands.specs.Telling.{KeepsGates}
-
-pub stay_in_place : {G : Type 0} (gates : List (Option G)) → AreInPlace gates gates
-stay_in_place gates = record { count = refl; some = λ i g there. (g, there) }
-
-pub gates_kept : {G : Type 0} (pace : Pace) (gates : List (Option G)) (why : Refusal) → KeepsGates pace gates gates (Err why)
-gates_kept pace gates why = record { in_place = stay_in_place gates; refused = refl; alone = λ none. refl; whole = λ workers. tt }
+use Rattle.yse_commands.specs.Told.{TellsTurns, block_of, large_turns, run_turns}
 
 -- the image of a machine has the machine's ports
 pub machine_ports : (choice : HomeChoice) (net : Netlist) (machine : Machine) (timing : Timing) (image : Image) → IsMachineImage choice net machine timing image → length image.ports ≡ ports_of machine
@@ -41,36 +32,22 @@ same_block : (net : Netlist) (timing : Timing) (image : Image) → IsImageOf net
 same_block net timing image of =
     ap (λ n. block_cycles (n + length (printed_sources image))) of.columns ∙ ap (λ n. block_cycles (input_count net + n)) of.printed
 
--- the visits of a run of the image are those of the netlist's turns in the timing
-pub image_visits : {G : Type 0} (p : gate.Ghosts G) (net : Netlist) (timing : Timing) (stimulus : Stimulus) (image : Image) → IsImageOf net timing image → (workers : ℕ) (gates gates' : List (Option G)) (wrote : Result (Unit {0}) WriteNo)
-    → AreVisitsOfRun p image stimulus workers gates gates' wrote → AreRunVisits p gates gates' wrote (length image.ports) timing net stimulus workers
-image_visits p net timing stimulus image of workers gates gates' (Ok done) visits = record {
-  turns = turns_of image stimulus;
-  are = ap (λ u. u * cycle_count stimulus) of.units;
-  visits = visits;
-}
-image_visits p net timing stimulus image of workers gates gates' (Err why) visits = record {
-  turns = turns_of_blocks image stimulus visits.blocks;
-  are = (
-    visits.blocks,
-    ap (λ u. u * min (visits.blocks * window_of image) (cycle_count stimulus)) of.units
-        ∙ ap (λ w. timing.units * min (visits.blocks * w) (cycle_count stimulus)) (same_block net timing image of),
-  );
-  visits = visits.visits;
-}
+module _ {G : Type 0} (p : gate.Ghosts G) (words : RunWords) (net : Netlist) (timing : Timing) (stimulus : Stimulus) (image : Image) (of : IsImageOf net timing image) (gates gates' : List (Option G)) where
+  in_units : (cycles : ℕ) → AreVisitsOf p (length image.ports) (image.units * cycles) words.workers gates gates' → AreVisitsOf p (length image.ports) (timing.units * cycles) words.workers gates gates'
+  in_units cycles = subst (λ u. AreVisitsOf p (length image.ports) (u * cycles) words.workers gates gates') of.units
 
--- a block has a cycle at least
-some_cycles : (n : ℕ) → 1 ≤ block_cycles n
-some_cycles zero = omega arith
-some_cycles (suc n) = omega arith
+  -- what a run of the image tells are the netlist's turns in the timing
+  pub image_turns : (wrote : Result (Unit {0}) WriteNo) → AreVisitsOfRun p image stimulus words.workers gates gates' wrote → TellsTurns p gates gates' wrote (Some (run_turns (length image.ports) words timing net stimulus))
+  image_turns (Ok written) visits = (cycle_count stimulus, refl, in_units (cycle_count stimulus) visits)
+  image_turns (Err why) visits = (
+    cycles_of_blocks image stimulus visits.blocks,
+    inr (visits.blocks, ap (λ w. min (visits.blocks * w) (cycle_count stimulus)) (same_block net timing image of)),
+    in_units (cycles_of_blocks image stimulus visits.blocks) visits.visits,
+  )
 
--- all turns are those of so many blocks as there are cycles
-pub all_blocks : {G : Type 0} (p : gate.Ghosts G) (gates gates' : List (Option G)) (why : WriteNo) (ports : ℕ) (timing : Timing) (net : Netlist) (stimulus : Stimulus) (workers : ℕ)
-    → AreRunVisits p gates gates' (Ok tt) ports timing net stimulus workers → AreRunVisits p gates gates' (Err why) ports timing net stimulus workers
-all_blocks p gates gates' why ports timing net stimulus workers visits = record {
-  turns = visits.turns;
-  are = (cycle_count stimulus, visits.are ∙ ap (λ c. timing.units * c) (sym (least (cycle_count stimulus) (block_of net) (some_cycles (input_count net + length net.printed)))));
-  visits = visits.visits;
-} where
-  least : (c w : ℕ) → 1 ≤ w → min (c * w) c ≡ c
-  least c w some = let long : c ≤ c * w = le-mul_of_pos_right c some in omega (arith, long)
+-- the turns of `large`, of which a cycle has one
+pub large_visits : {G : Type 0} (p : gate.Ghosts G) (cycles workers : ℕ) (gates gates' : List (Option G)) → AreVisitsOf p (ports_of large_machine) cycles workers gates gates' → TellsTurns p gates gates' (Ok tt) (Some (large_turns cycles workers))
+large_visits p cycles workers gates gates' visits = (cycles, refl, subst (λ n. AreVisitsOf p (ports_of large_machine) n workers gates gates') (once cycles) visits)
+  where
+    once : (n : ℕ) → n ≡ 1 * n
+    once n = omega arith

@@ -1,50 +1,36 @@
 -- Steps of a command, one after the other: each begins its files, and what it lets pass goes on to the output.
-use Rattle.std.proofs.Common.{◌≡◌, ℕ, Bool, List, ◌++◌, Option, Result, Ok, Err}
+use Rattle.std.proofs.Common.{◌≡◌, ℕ, Bool, List, ◌++◌, Option, Ok, Err}
 use Rattle.edge_io.specs.declared.counts.FileCounts.{FileCounts}
 use Rattle.cmd_words.specs.declared.command.RunWords.{RunWords}
-use Rattle.image_defs.specs.declared.image.Image.{Image}
-use Rattle.machine_text.specs.declared.machine.Machine.{Machine}
 use Rattle.net_defs.specs.declared.netlist.Netlist.{Netlist}
 use Rattle.net_defs.specs.declared.stimulus.Stimulus.{Stimulus}
 use Rattle.net_defs.specs.declared.timing.Timing.{Timing}
-use Rattle.yse_commands.specs.declared.output.Output.{Output}
-use Rattle.named_files.specs.declared.designs.Runnable.{Runnable}
 use Rattle.named_files.specs.declared.reading.Timed.{Timed}
 use Rattle.refusal_lines.specs.declared.refusal.Refusal.{Refusal}
 use Rattle.named_files.specs.Outcome.{Outcome}
-use Rattle.named_files.specs.Designs.{Prepared}
-use Rattle.named_files.specs.Passing.{AfterReady, AfterTimed, Continuation, Never, Only, Passes}
+use Rattle.named_files.specs.Passing.{AfterTimed, Continuation, Never, Only, Passes}
 use Rattle.named_files.specs.Readings.{Reading}
-use Rattle.yse_commands.specs.Refusals.{Follows, outcome_of}
+use Rattle.yse_commands.specs.Refusals.{Follows}
 use Rattle.named_files.specs.Refused.{refused_of}
-use Rattle.named_files.specs.Files.{AfterMachine, AfterNetlist, AfterStimulus}
+use Rattle.named_files.specs.Files.{AfterNetlist, AfterStimulus}
 use Rattle.named_files.proofs.ReadingLemmas.{readings_both}
-use Rattle.named_files.proofs.WeakerLemmas.{Implies, ready_so, stimulus_so, timed_so}
-use Rattle.yse_commands.specs.commands.Run.{ExpectedOn}
+use Rattle.named_files.proofs.WeakerLemmas.{Implies, stimulus_so, timed_so}
 use Rattle.named_files.proofs.PassingLemmas.{only_so}
-
--- the end of a run, after the design with its stimulus
-abbrev pub ready_then : (Machine → Timing → Netlist → Stimulus → List Reading → Outcome → Type 0) → Continuation Prepared
-ready_then End ready = End ready.placed.machine ready.placed.timing ready.placed.net ready.stimulus
-
--- the stimulus of a run of an image, and its end
-abbrev pub image_then : RunWords → (Image → Timing → Netlist → Stimulus → List Reading → Outcome → Type 0) → Continuation Runnable
-image_then words End run = AfterStimulus words.stimulus run.net (End run.image run.timing run.net)
 
 module _ (names : Option (List ℕ → Bool)) (bytes : Option (List ℕ → List ℕ)) where
   module _ {X : Type 0} (Step : Continuation X → List Reading → Outcome → Type 0) (so : (One Other : Continuation X) → ((x : X) → Implies (One x) (Other x)) → Implies (Step One) (Step Other)) where
     -- a value passed
-    pub passed_on : (x : X) (Next : Continuation X) (names-then : Option (List ℕ → Bool)) (bytes-then : Option (List ℕ → List ℕ)) (old mid new : FileCounts) (result : Result Output Refusal) → names-then ≡ names → bytes-then ≡ bytes
-        → Passes names bytes old mid Step (Ok x) → Follows names-then bytes-then mid new result (Next x) → Follows names bytes old new result (Step Next)
-    passed_on x Next names-then bytes-then old mid new result same_names same_bytes first next = record {
+    pub passed_on : (x : X) (Next : Continuation X) (names-then : Option (List ℕ → Bool)) (bytes-then : Option (List ℕ → List ℕ)) (old mid new : FileCounts) (outcome : Outcome) → names-then ≡ names → bytes-then ≡ bytes
+        → Passes names bytes old mid Step (Ok x) → Follows names-then bytes-then mid new outcome (Next x) → Follows names bytes old new outcome (Step Next)
+    passed_on x Next names-then bytes-then old mid new outcome same_names same_bytes first next = record {
       readings = first.readings ++ next.readings;
       are = readings_both names bytes old mid new first.readings next.readings first.are (rw same_names at (rw same_bytes at next.are));
-      expected = so (Only x next.readings (outcome_of result)) Next (only_so x next.readings (outcome_of result) Next next.expected) (first.readings ++ next.readings) (outcome_of result)
-          (first.steps next.readings (outcome_of result));
+      expected = so (Only x next.readings outcome) Next (only_so x next.readings outcome Next next.expected) (first.readings ++ next.readings) outcome
+          (first.steps next.readings outcome);
     }
 
     -- a refusal ends the chain
-    pub stopped : (Next : Continuation X) (old new : FileCounts) (why : Refusal) → Passes names bytes old new Step (Err why) → Follows names bytes old new (Err why) (Step Next)
+    pub stopped : (Next : Continuation X) (old new : FileCounts) (why : Refusal) → Passes names bytes old new Step (Err why) → Follows names bytes old new (refused_of why) (Step Next)
     stopped Next old new why first = record {
       readings = first.readings;
       are = first.are;
@@ -54,24 +40,16 @@ module _ (names : Option (List ℕ → Bool)) (bytes : Option (List ℕ → List
   -- ---- the steps of commands
 
   -- the netlist and its timing
-  pub design_on : (words : RunWords) (End : Netlist → Timing → List Reading → Outcome → Type 0) (design : Timed) (names-then : Option (List ℕ → Bool)) (bytes-then : Option (List ℕ → List ℕ)) (old mid new : FileCounts) (result : Result Output Refusal) → names-then ≡ names → bytes-then ≡ bytes
-      → Passes names bytes old mid (AfterTimed words) (Ok design) → Follows names-then bytes-then mid new result (End design.net design.timing) → Follows names bytes old new result (AfterNetlist words End)
+  pub design_on : (words : RunWords) (End : Netlist → Timing → List Reading → Outcome → Type 0) (design : Timed) (names-then : Option (List ℕ → Bool)) (bytes-then : Option (List ℕ → List ℕ)) (old mid new : FileCounts) (outcome : Outcome) → names-then ≡ names → bytes-then ≡ bytes
+      → Passes names bytes old mid (AfterTimed words) (Ok design) → Follows names-then bytes-then mid new outcome (End design.net design.timing) → Follows names bytes old new outcome (AfterNetlist words End)
   design_on words End design = passed_on (AfterTimed words) (timed_so words) design (λ d. End d.net d.timing)
 
-  pub design_stops : (words : RunWords) (End : Netlist → Timing → List Reading → Outcome → Type 0) (old new : FileCounts) (why : Refusal) → Passes names bytes old new (AfterTimed words) (Err why) → Follows names bytes old new (Err why) (AfterNetlist words End)
+  pub design_stops : (words : RunWords) (End : Netlist → Timing → List Reading → Outcome → Type 0) (old new : FileCounts) (why : Refusal) → Passes names bytes old new (AfterTimed words) (Err why) → Follows names bytes old new (refused_of why) (AfterNetlist words End)
   design_stops words End = stopped (AfterTimed words) (timed_so words) (λ d. End d.net d.timing)
 
-  pub stimulus_on : (file : List ℕ) (net : Netlist) (Next : Continuation Stimulus) (stimulus : Stimulus) (names-then : Option (List ℕ → Bool)) (bytes-then : Option (List ℕ → List ℕ)) (old mid new : FileCounts) (result : Result Output Refusal) → names-then ≡ names → bytes-then ≡ bytes
-      → Passes names bytes old mid (AfterStimulus file net) (Ok stimulus) → Follows names-then bytes-then mid new result (Next stimulus) → Follows names bytes old new result (AfterStimulus file net Next)
+  pub stimulus_on : (file : List ℕ) (net : Netlist) (Next : Continuation Stimulus) (stimulus : Stimulus) (names-then : Option (List ℕ → Bool)) (bytes-then : Option (List ℕ → List ℕ)) (old mid new : FileCounts) (outcome : Outcome) → names-then ≡ names → bytes-then ≡ bytes
+      → Passes names bytes old mid (AfterStimulus file net) (Ok stimulus) → Follows names-then bytes-then mid new outcome (Next stimulus) → Follows names bytes old new outcome (AfterStimulus file net Next)
   stimulus_on file net Next stimulus = passed_on (AfterStimulus file net) (stimulus_so file net) stimulus Next
 
-  pub stimulus_stops : (file : List ℕ) (net : Netlist) (Next : Continuation Stimulus) (old new : FileCounts) (why : Refusal) → Passes names bytes old new (AfterStimulus file net) (Err why) → Follows names bytes old new (Err why) (AfterStimulus file net Next)
+  pub stimulus_stops : (file : List ℕ) (net : Netlist) (Next : Continuation Stimulus) (old new : FileCounts) (why : Refusal) → Passes names bytes old new (AfterStimulus file net) (Err why) → Follows names bytes old new (refused_of why) (AfterStimulus file net Next)
   stimulus_stops file net = stopped (AfterStimulus file net) (stimulus_so file net)
-
-  -- the design on its machine, with its stimulus
-  pub ready_on : (words : RunWords) (End : Machine → Timing → Netlist → Stimulus → List Reading → Outcome → Type 0) (ready : Prepared) (names-then : Option (List ℕ → Bool)) (bytes-then : Option (List ℕ → List ℕ)) (old mid new : FileCounts) (result : Result Output Refusal) → names-then ≡ names → bytes-then ≡ bytes
-      → Passes names bytes old mid (AfterReady words) (Ok ready) → Follows names-then bytes-then mid new result (ready_then End ready) → Follows names bytes old new result (AfterMachine words.machine (ExpectedOn words End))
-  ready_on words End ready = passed_on (AfterReady words) (ready_so words) ready (ready_then End)
-
-  pub ready_stops : (words : RunWords) (End : Machine → Timing → Netlist → Stimulus → List Reading → Outcome → Type 0) (old new : FileCounts) (why : Refusal) → Passes names bytes old new (AfterReady words) (Err why) → Follows names bytes old new (Err why) (AfterMachine words.machine (ExpectedOn words End))
-  ready_stops words End = stopped (AfterReady words) (ready_so words) (ready_then End)

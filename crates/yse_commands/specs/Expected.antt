@@ -1,5 +1,5 @@
 -- What a whole call comes to, given the words and what was read: the chain of checks of its command.
-use Rattle.std.specs.Prelude.{◌≡◌, true, false, ℕ, List, None, Result, Ok, Err}
+use Rattle.std.specs.Prelude.{◌≡◌, ℕ, List, Result, Ok, Err}
 use Rattle.cmd_words.specs.declared.command.Command.{Command}
 use Rattle.cmd_words.specs.declared.command.Command.TheVariants as command
 use Rattle.cmd_words.specs.Forms.{HasForm}
@@ -16,13 +16,13 @@ use Rattle.yse_commands.specs.commands.Help.{ExpectedHelp}
 use Rattle.yse_commands.specs.commands.Large.{ExpectedLarge}
 use Rattle.yse_commands.specs.commands.Layout.{ExpectedLayout}
 use Rattle.yse_commands.specs.commands.Pack.{ExpectedPack}
-use Rattle.yse_commands.specs.commands.Run.{ExpectedRun, ExpectedRefer}
+use Rattle.yse_commands.specs.commands.Run.{ExpectedOrder, ExpectedRefer, ExpectedRun}
 use Rattle.yse_commands.specs.commands.Show.{ExpectedShow}
 
 abbrev pub ExpectedOf : Command → List Reading → Outcome → Type 0
-ExpectedOf (command.Run words) readings outcome = ExpectedRun words false None readings outcome
+ExpectedOf (command.Run words) readings outcome = ExpectedRun words readings outcome
 ExpectedOf (command.Refer words) readings outcome = ExpectedRefer words readings outcome
-ExpectedOf (command.Order words) readings outcome = ExpectedRun words true words.order readings outcome
+ExpectedOf (command.Order words) readings outcome = ExpectedOrder words readings outcome
 ExpectedOf (command.Plan words) readings outcome = ExpectedLayout sheet.Report words readings outcome
 ExpectedOf (command.Compile words) readings outcome = ExpectedLayout sheet.Image words readings outcome
 ExpectedOf (command.Exec words image) readings outcome = ExpectedExec words image readings outcome
@@ -30,7 +30,7 @@ ExpectedOf (command.Pack words) readings outcome = ExpectedPack words readings o
 ExpectedOf (command.Fault words) readings outcome = ExpectedFault words readings outcome
 ExpectedOf (command.Cover words) readings outcome = ExpectedCover words readings outcome
 ExpectedOf (command.Show netlist) readings outcome = ExpectedShow netlist readings outcome
-ExpectedOf (command.Large gates cycles workers) readings outcome = ExpectedLarge gates cycles readings outcome
+ExpectedOf (command.Large gates cycles workers) readings outcome = ExpectedLarge gates cycles workers readings outcome
 ExpectedOf (command.Help topic) readings outcome = ExpectedHelp topic readings outcome
 
 -- the command of whose form the words are; words of no form are refused

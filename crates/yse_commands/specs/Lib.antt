@@ -6,6 +6,7 @@ pub mod Orders
 pub mod Outputs
 pub mod Refusals
 pub mod Telling
+pub mod Told
 pub mod Traced
 pub mod Visited
 pub mod Words

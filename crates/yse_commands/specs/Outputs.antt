@@ -1,12 +1,11 @@
 -- The output of a request.
-use Rattle.std.specs.Prelude.{◌≡◌, ⊤, ℕ, List, Option, Some, None, Result, Ok}
+use Rattle.std.specs.Prelude.{◌≡◌, ⊤, ℕ, List, Option, Result, Ok}
 use Rattle.machine_run.specs.Lines.{bytes_of_run}
 use Rattle.edge_io.specs.Writing.{Takes, joined}
 use Rattle.edge_io.specs.declared.writing.WriteNo.{WriteNo}
 use Rattle.trace_text.specs.Lines.{FitsLine, trace_text}
 pub use Rattle.trace_text.specs.Lines.{cycle_lines}
 use Rattle.pack_machine.specs.Lines.{bytes_of_lanes}
-use Rattle.yse_commands.specs.declared.output.Ending.{Ending}
 use Rattle.yse_commands.specs.declared.output.Output.{Output}
 use Rattle.yse_commands.specs.declared.output.Output.TheVariants as output
 use Rattle.yse_commands.specs.declared.output.Trace.{Trace}
@@ -64,15 +63,6 @@ wrote_in (output.Unfinished trace ending) = Ok tt
 wrote_in (output.Written run) = run.wrote
 wrote_in (output.Lanes run) = run.wrote
 wrote_in (output.Lines lines) = Ok tt
-
--- where the run of an output ended, if it was not finished
-abbrev pub ending_in : Output → Option Ending
-ending_in (output.Text text) = None
-ending_in (output.Trace trace) = None
-ending_in (output.Unfinished trace ending) = Some ending
-ending_in (output.Written run) = None
-ending_in (output.Lanes run) = None
-ending_in (output.Lines lines) = None
 
 -- what a sink has taken of an output by the time when the output is had: of a run that wrote it itself all, or a
 -- proper prefix after a fault, and of another nothing

@@ -5,9 +5,7 @@ use Rattle.edge_io.specs.declared.writing.WriteNo.{WriteNo}
 use Rattle.yse_commands.specs.declared.output.Output.{Output}
 use Rattle.yse_commands.specs.declared.output.Output.TheVariants as output
 use Rattle.refusal_lines.specs.declared.refusal.Refusal.{Refusal}
-use Rattle.refusal_lines.specs.declared.status.Status.{Status}
-use Rattle.refusal_lines.specs.declared.status.Status.TheVariants as status
-use Rattle.named_files.specs.Outcome.{Outcome, done, unfinished}
+use Rattle.named_files.specs.Outcome.{Outcome, Turns, done, telling, unfinished}
 use Rattle.edge_io.specs.Writing.{joined}
 use Rattle.yse_commands.specs.Outputs.{HasTaken, lanes_bytes, run_bytes, trace_bytes, wrote_in}
 use Rattle.named_files.specs.Readings.{Reading, AreReadings}
@@ -22,22 +20,15 @@ ended_with (output.Written run) = done (run_bytes run)
 ended_with (output.Lanes run) = done (lanes_bytes run)
 ended_with (output.Lines lines) = done (joined lines)
 
-abbrev pub outcome_of : Result Output Refusal → Outcome
-outcome_of (Ok output) = ended_with output
-outcome_of (Err why) = refused_of why
+-- the outcome of an answer, where the gates are told of these turns
+abbrev pub outcome_of : Option Turns → Result Output Refusal → Outcome
+outcome_of told (Ok output) = telling told (ended_with output)
+outcome_of told (Err why) = telling told (refused_of why)
 
 -- what came of the writing that a run did itself; a refusal has written nothing
 abbrev pub written_by : Result Output Refusal → Result (Unit {0}) WriteNo
 written_by (Ok output) = wrote_in output
 written_by (Err why) = Ok tt
-
--- the status that an output comes to, as far as it is written
-abbrev pub status_so_far : Result (Unit {0}) WriteNo → Outcome → Status
-status_so_far (Ok written) outcome = outcome.status
-status_so_far (Err why) outcome = status.WriteFault
-
-abbrev pub status_told : Result Output Refusal → Status
-status_told result = status_so_far (written_by result) (outcome_of result)
 
 -- what a sink has taken by the time when the answer is had: nothing before a refusal
 module _ {O : Type 0} (taken : O → Option (List ℕ)) (faults : O → ℕ) (before after : O) where
@@ -46,8 +37,8 @@ module _ {O : Type 0} (taken : O → Option (List ℕ)) (faults : O → ℕ) (be
   MayTake (Err why) = after ≡ before
 
 module _ (names : Option (List ℕ → Bool)) (bytes : Option (List ℕ → List ℕ)) (old new : FileCounts) where
-  -- a call began some files, and comes to what a chain of checks expects of them
-  pub record Follows (result : Result Output Refusal) (Chain : List Reading → Outcome → Type 0) : Type 0 where
+  -- a call began some files, and comes to an outcome that a chain of checks expects of them
+  pub record Follows (outcome : Outcome) (Chain : List Reading → Outcome → Type 0) : Type 0 where
     pub readings : List Reading
     pub are : AreReadings names bytes old new readings
-    pub expected : Chain readings (outcome_of result)
+    pub expected : Chain readings outcome

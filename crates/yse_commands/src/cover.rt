@@ -1,12 +1,12 @@
 //! `cover`: which values each signal of a netlist had, and which changes it made.
 
-ghost use Rattle.std.specs.Prelude.{◌≡◌, IfOk};
+ghost use Rattle.std.specs.Prelude.{◌≡◌, IfOk, None};
 ghost use Rattle.edge_io.specs.Writing.{joined};
 ghost use Rattle.net_defs.specs.Loops.{AreRanks};
 ghost use Rattle.net_defs.specs.Valid.{IsValid, IsValidStimulus, IsValidTiming};
 ghost use Rattle.cmd_words.specs.Forms.{IsRunInRange};
 ghost use Rattle.yse_commands.specs.Outputs.{CanWrite};
-ghost use Rattle.yse_commands.specs.Refusals.{Follows};
+ghost use Rattle.yse_commands.specs.Refusals.{Follows, outcome_of};
 ghost use Rattle.yse_commands.specs.commands.Cover.{ExpectedCover, IsCoverage, WritesCoverage};
 ghost use Rattle.named_files.specs.Files.{AfterStimulus};
 
@@ -30,7 +30,7 @@ pub fn cover<'a, F: Files>(
     ensures same_names { F.names files.new ≡ F.names files.old }
     ensures same_bytes { F.bytes files.new ≡ F.bytes files.old }
     ensures expected { Follows (F.names files.old) (F.bytes files.old) (F.counts files.old) (F.counts files.new)
-        result (ExpectedCover words.now) }
+        (outcome_of None result) (ExpectedCover words.now) }
     ensures writable { IfOk result CanWrite }
 {
     let Timed { net, timing } = match design_from(alloc, files, words) {
@@ -65,7 +65,7 @@ fn coverage_of<'a, F: Files>(
     ensures same_names { F.names files.new ≡ F.names files.old }
     ensures same_bytes { F.bytes files.new ≡ F.bytes files.old }
     ensures expected { Follows (F.names files.old) (F.bytes files.old) (F.counts files.old) (F.counts files.new)
-        result (AfterStimulus words.now.stimulus design.now.net (WritesCoverage design.now.net timing.now)) }
+        (outcome_of None result) (AfterStimulus words.now.stimulus design.now.net (WritesCoverage design.now.net timing.now)) }
     ensures writable { IfOk result CanWrite }
 {
     let stimulus = match stimulus_in(alloc, files, words.stimulus.as_bytes(), &design.net) {

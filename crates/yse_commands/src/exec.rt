@@ -3,13 +3,12 @@
 ghost use Rattle.std.specs.Prelude.{◌≡◌, ◌≤◌, IfOk, length};
 ghost use Rattle.cmd_words.specs.Forms.{IsRunInRange};
 ghost use Rattle.limits.specs.declared.TheConstants.{MAX_WORKERS};
-ghost use Rattle.yse_commands.specs.declared.steps.Pace.TheVariants.{Workers};
+ghost use Rattle.machine_run.specs.Visits.{AreInPlace};
 ghost use Rattle.yse_commands.specs.Outputs.{CanEnd};
-ghost use Rattle.yse_commands.specs.Refusals.{Follows, MayTake, written_by};
+ghost use Rattle.yse_commands.specs.Refusals.{MayTake};
+ghost use Rattle.yse_commands.specs.Telling.{Comes};
 ghost use Rattle.yse_commands.specs.Visited.{AllCanTell};
-ghost use Rattle.yse_commands.specs.code.Visited.{ExecTelling};
-ghost use Rattle.yse_commands.specs.Telling.{KeepsGates, TellsOfExec};
-ghost use Rattle.yse_commands.specs.commands.Exec.{ExecutesBy, ExpectedExec};
+ghost use Rattle.yse_commands.specs.commands.Exec.{ExpectedExec};
 
 use crate::output::Output;
 use crate::steps::by_workers;
@@ -39,36 +38,11 @@ pub fn exec<'a, R: Threads + Wait + Sync, F: Files, O: Sink, G: Gate + Send>(
     requires tell { AllCanTell G.Gate.own gates.old }
     ensures same_names { F.names files.new ≡ F.names files.old }
     ensures same_bytes { F.bytes files.new ≡ F.bytes files.old }
-    ensures expected { Follows (F.names files.old) (F.bytes files.old) (F.counts files.old) (F.counts files.new)
+    ensures comes { Comes G.Gate.own (F.names files.old) (F.bytes files.old) (F.counts files.old) (F.counts files.new) gates.old gates.new
         result (ExpectedExec words.now image.now) }
     ensures writable { IfOk result CanEnd }
-    ensures visits { TellsOfExec G.Gate.own (F.bytes files.old) gates.old gates.new words.now image.now result }
     ensures written { MayTake O.taken O.faults out.old out.new result }
-    ensures kept { KeepsGates Workers gates.old gates.new result }
-{
-    exec_telling(rt, alloc, files, words, image, out, gates)
-}
-
-/// The same, with what the gates are told.
-fn exec_telling<'a, R: Threads + Wait + Sync, F: Files, O: Sink, G: Gate + Send>(
-    rt: &R,
-    alloc: Global,
-    files: &mut F,
-    words: &'a RunWords,
-    image: &'a [u8],
-    out: &mut O,
-    gates: &mut [Option<G>],
-) -> Result<Output, Refusal<'a>>
-    requires range { IsRunInRange words.now }
-    requires gates { MAX_WORKERS ≤ length gates.old }
-    requires tell { AllCanTell G.Gate.own gates.old }
-    ensures same_names { F.names files.new ≡ F.names files.old }
-    ensures same_bytes { F.bytes files.new ≡ F.bytes files.old }
-    ensures expected { Follows (F.names files.old) (F.bytes files.old) (F.counts files.old) (F.counts files.new)
-        result (ExecutesBy words.now image.now (ExecTelling G.Gate.own gates.old gates.new (written_by result) words.now)) }
-    ensures writable { IfOk result CanEnd }
-    ensures written { MayTake O.taken O.faults out.old out.new result }
-    ensures kept { KeepsGates Workers gates.old gates.new result }
+    ensures in_place { AreInPlace gates.old gates.new }
 {
     let run = match runnable_in(alloc, files, words, image) {
         Ok(run) => run,
@@ -76,10 +50,7 @@ fn exec_telling<'a, R: Threads + Wait + Sync, F: Files, O: Sink, G: Gate + Send>
     };
     let stimulus = match stimulus_in(alloc, files, words.stimulus.as_bytes(), &run.net) {
         Ok(stimulus) => stimulus,
-        Err(no) => {
-            drop(run);
-            return Err(no);
-        }
+        Err(no) => return Err(no),
     };
     match by_workers(rt, alloc, words, run, stimulus, out, gates) {
         Ok(written) => Ok(Output::Written(written)),

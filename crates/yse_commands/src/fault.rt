@@ -1,12 +1,12 @@
 //! `fault`: where stuck faults of a netlist are first seen.
 
-ghost use Rattle.std.specs.Prelude.{◌≡◌, All, IfOk, IfSome};
+ghost use Rattle.std.specs.Prelude.{◌≡◌, All, IfOk, IfSome, None};
 ghost use Rattle.edge_io.specs.Writing.{joined};
 ghost use Rattle.net_defs.specs.Loops.{AreRanks};
 ghost use Rattle.net_defs.specs.Valid.{IsFault, IsValid, IsValidStimulus, IsValidTiming};
 ghost use Rattle.cmd_words.specs.Forms.{IsRunInRange};
 ghost use Rattle.yse_commands.specs.Outputs.{CanWrite};
-ghost use Rattle.yse_commands.specs.Refusals.{Follows};
+ghost use Rattle.yse_commands.specs.Refusals.{Follows, outcome_of};
 ghost use Rattle.named_files.specs.Checks.{After, HasFewSignals};
 ghost use Rattle.yse_commands.specs.commands.Fault.{AfterListed, ExpectedFault, IsFaultList, listed_or_all};
 ghost use Rattle.named_files.specs.Files.{AfterFaultList};
@@ -34,7 +34,7 @@ pub fn fault<'a, R: Threads + Sync, F: Files>(
     ensures same_names { F.names files.new ≡ F.names files.old }
     ensures same_bytes { F.bytes files.new ≡ F.bytes files.old }
     ensures expected { Follows (F.names files.old) (F.bytes files.old) (F.counts files.old) (F.counts files.new)
-        result (ExpectedFault words.now) }
+        (outcome_of None result) (ExpectedFault words.now) }
     ensures writable { IfOk result CanWrite }
 {
     let Timed { net, timing } = match design_from(alloc, files, words) {
@@ -71,7 +71,7 @@ fn faults_of<'a, R: Threads + Sync, F: Files>(
     ensures same_names { F.names files.new ≡ F.names files.old }
     ensures same_bytes { F.bytes files.new ≡ F.bytes files.old }
     ensures expected { Follows (F.names files.old) (F.bytes files.old) (F.counts files.old) (F.counts files.new)
-        result (After (HasFewSignals design.now.net) (λ few.
+        (outcome_of None result) (After (HasFewSignals design.now.net) (λ few.
         AfterFaultList words.now.faults design.now.net (AfterListed words.now.stimulus design.now.net timing.now))) }
     ensures writable { IfOk result CanWrite }
 {
@@ -103,7 +103,7 @@ fn listed_of<'a, R: Threads + Sync, F: Files>(
     ensures same_names { F.names files.new ≡ F.names files.old }
     ensures same_bytes { F.bytes files.new ≡ F.bytes files.old }
     ensures expected { Follows (F.names files.old) (F.bytes files.old) (F.counts files.old) (F.counts files.new)
-        result (AfterListed words.now.stimulus design.now.net timing.now listed) }
+        (outcome_of None result) (AfterListed words.now.stimulus design.now.net timing.now listed) }
     ensures writable { IfOk result CanWrite }
 {
     let stimulus = match stimulus_in(alloc, files, words.stimulus.as_bytes(), &design.net) {

@@ -1,6 +1,6 @@
 //! `help`: what a command is called with and what it prints, or the same of all in brief.
 
-ghost use Rattle.std.specs.Prelude.{[], IfOk};
+ghost use Rattle.std.specs.Prelude.{[], IfOk, None};
 ghost use Rattle.yse_commands.specs.Outputs.{CanWrite};
 ghost use Rattle.yse_commands.specs.Refusals.{outcome_of};
 ghost use Rattle.yse_commands.specs.commands.Help.{ExpectedHelp};
@@ -14,7 +14,7 @@ use std::alloc::Global;
 
 /// The text of a command, or of all.
 pub fn help<'a>(alloc: Global, topic: &Option<Topic>) -> Result<Output, Refusal<'a>>
-    ensures expected { ExpectedHelp topic.now [] (outcome_of result) }
+    ensures expected { ExpectedHelp topic.now [] (outcome_of None result) }
     ensures writable { IfOk result CanWrite }
 {
     match help_text(alloc, topic) {

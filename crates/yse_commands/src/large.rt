@@ -1,13 +1,13 @@
 //! `large`: the summary of a run of a generated design.
 
-ghost use Rattle.machine_text.specs.Machines.{ports_of};
-ghost use Rattle.std.specs.Prelude.{[], ◌≡◌, ◌⊎◌, ◌≤◌, IfOk, length};
+ghost use Rattle.std.specs.Prelude.{[], ◌≤◌, IfOk, Option, length};
 ghost use Rattle.limits.specs.declared.TheConstants.{MAX_LARGE_CYCLES, MAX_LARGE_GATES, MAX_WORKERS};
-ghost use Rattle.large_run.specs.Setting.{large_machine};
-ghost use Rattle.machine_run.specs.Visits.{AreInPlace, AreVisitsOf};
+ghost use Rattle.machine_run.specs.Visits.{AreInPlace};
+ghost use Rattle.named_files.specs.Outcome.{Turns};
 ghost use Rattle.yse_commands.specs.Outputs.{CanWrite};
-ghost use Rattle.yse_commands.specs.Refusals.{outcome_of, status_told};
-ghost use Rattle.yse_commands.specs.Visited.{AllCanTell, AreTold};
+ghost use Rattle.yse_commands.specs.Refusals.{outcome_of, written_by};
+ghost use Rattle.yse_commands.specs.Told.{TellsTurns};
+ghost use Rattle.yse_commands.specs.Visited.{AllCanTell};
 ghost use Rattle.yse_commands.specs.commands.Large.{ExpectedLarge};
 
 use crate::output::Output;
@@ -35,11 +35,9 @@ pub fn large<'a, R: Threads + Wait + Sync, G: Gate + Send>(
     requires few_workers { workers ≤ MAX_WORKERS }
     requires gates { MAX_WORKERS ≤ length gates.old }
     requires tell { AllCanTell G.Gate.own gates.old }
-    ensures expected { ExpectedLarge count cycles [] (outcome_of result) }
+    ensures comes { (told : Option Turns) × ExpectedLarge count cycles workers [] (outcome_of told result)
+        × TellsTurns G.Gate.own gates.old gates.new (written_by result) told }
     ensures writable { IfOk result CanWrite }
-    ensures visits { AreTold (status_told result) (AreVisitsOf G.Gate.own (ports_of large_machine) cycles workers gates.old gates.new)
-        (AreVisitsOf G.Gate.own (ports_of large_machine) cycles workers gates.old gates.new)
-        ((gates.new ≡ gates.old) ⊎ AreVisitsOf G.Gate.own (ports_of large_machine) cycles workers gates.old gates.new) }
     ensures in_place { AreInPlace gates.old gates.new }
 {
     match run_large(rt, alloc, count, cycles, workers, gates) {

@@ -1,9 +1,9 @@
 //! `plan` and `compile`: what a netlist is laid out as on the machine, after the same checks.
 
-ghost use Rattle.std.specs.Prelude.{◌≡◌, IfOk};
+ghost use Rattle.std.specs.Prelude.{◌≡◌, IfOk, None};
 ghost use Rattle.cmd_words.specs.Forms.{IsRunInRange};
 ghost use Rattle.yse_commands.specs.Outputs.{CanWrite};
-ghost use Rattle.yse_commands.specs.Refusals.{Follows};
+ghost use Rattle.yse_commands.specs.Refusals.{Follows, outcome_of};
 ghost use Rattle.yse_commands.specs.commands.Layout.{ExpectedLayout, IsSheetOf};
 
 use crate::compile::image_text_of;
@@ -36,7 +36,7 @@ pub fn lay_out<'a, F: Files>(
     ensures same_names { F.names files.new ≡ F.names files.old }
     ensures same_bytes { F.bytes files.new ≡ F.bytes files.old }
     ensures expected { Follows (F.names files.old) (F.bytes files.old) (F.counts files.old) (F.counts files.new)
-        result (ExpectedLayout sheet words.now) }
+        (outcome_of None result) (ExpectedLayout sheet words.now) }
     ensures writable { IfOk result CanWrite }
 {
     let planned = match planned_on_machine(alloc, files, words) {

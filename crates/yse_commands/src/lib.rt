@@ -9,6 +9,7 @@ pub mod fault;
 pub mod help;
 pub mod large;
 mod layout;
+pub mod order;
 pub mod output;
 pub mod pack;
 mod plan;
@@ -18,4 +19,3 @@ pub mod show;
 mod steps;
 
 pub use layout::{Sheet, lay_out};
-pub use steps::Pace;

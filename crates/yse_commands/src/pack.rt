@@ -1,21 +1,18 @@
 //! `pack`: the traces of up to 30 simulations, by one run of the compiled machine.
 
-ghost use Rattle.std.specs.Prelude.{[], ◌≡◌, ◌≤◌, ◌*◌, IfOk, OnErr, OnOk, length};
-ghost use Rattle.machine_text.specs.Machines.{ports_of};
+ghost use Rattle.std.specs.Prelude.{◌≡◌, ◌≤◌, IfOk, OnErr, Some, length};
 ghost use Rattle.net_defs.specs.Valid.{input_count};
 ghost use Rattle.cmd_words.specs.Forms.{IsRunInRange};
 ghost use Rattle.edge_io.specs.Writing.{Takes};
 ghost use Rattle.limits.specs.declared.TheConstants.{MAX_WORKERS};
-ghost use Rattle.machine_run.specs.Visits.{AreInPlace, AreVisitsOf};
-ghost use Rattle.stim_text.specs.Lanes.{AreLanes, longest};
-ghost use Rattle.yse_commands.specs.declared.steps.Pace.TheVariants.{Workers};
+ghost use Rattle.machine_run.specs.Visits.{AreInPlace};
+ghost use Rattle.stim_text.specs.Lanes.{AreLanes};
 ghost use Rattle.yse_commands.specs.Outputs.{CanEnd, lanes_bytes};
-ghost use Rattle.yse_commands.specs.Refusals.{Follows, MayTake, outcome_of};
+ghost use Rattle.yse_commands.specs.Refusals.{MayTake};
+ghost use Rattle.yse_commands.specs.Telling.{Comes};
+ghost use Rattle.yse_commands.specs.Told.{TellsTurns, lanes_turns};
 ghost use Rattle.yse_commands.specs.Visited.{AllCanTell};
-ghost use Rattle.yse_commands.specs.code.Visited.{LanesTelling};
-ghost use Rattle.yse_commands.specs.Telling.{KeepsGates, TellsOfLanes};
-ghost use Rattle.yse_commands.specs.commands.Pack.{AreLaneTraces, ExpectedPack, PacksOn};
-ghost use Rattle.named_files.specs.Files.{AfterMachine};
+ghost use Rattle.yse_commands.specs.commands.Pack.{AreLaneTraces, ExpectedPack};
 
 use crate::output::{Output, WrittenLanes};
 use cmd_words::RunWords;
@@ -46,35 +43,11 @@ pub fn pack<'a, R: Threads + Wait + Sync, F: Files, O: Sink, G: Gate + Send>(
     requires tell { AllCanTell G.Gate.own gates.old }
     ensures same_names { F.names files.new ≡ F.names files.old }
     ensures same_bytes { F.bytes files.new ≡ F.bytes files.old }
-    ensures expected { Follows (F.names files.old) (F.bytes files.old) (F.counts files.old) (F.counts files.new)
+    ensures comes { Comes G.Gate.own (F.names files.old) (F.bytes files.old) (F.counts files.old) (F.counts files.new) gates.old gates.new
         result (ExpectedPack words.now) }
     ensures writable { IfOk result CanEnd }
     ensures written { MayTake O.taken O.faults out.old out.new result }
-    ensures visits { TellsOfLanes G.Gate.own (F.bytes files.old) gates.old gates.new words.now result }
     ensures in_place { AreInPlace gates.old gates.new }
-{
-    pack_telling(rt, alloc, files, words, out, gates)
-}
-
-/// The same, with what the gates are told.
-fn pack_telling<'a, R: Threads + Wait + Sync, F: Files, O: Sink, G: Gate + Send>(
-    rt: &R,
-    alloc: Global,
-    files: &mut F,
-    words: &'a RunWords,
-    out: &mut O,
-    gates: &mut [Option<G>],
-) -> Result<Output, Refusal<'a>>
-    requires range { IsRunInRange words.now }
-    requires gates { MAX_WORKERS ≤ length gates.old }
-    requires tell { AllCanTell G.Gate.own gates.old }
-    ensures same_names { F.names files.new ≡ F.names files.old }
-    ensures same_bytes { F.bytes files.new ≡ F.bytes files.old }
-    ensures expected { Follows (F.names files.old) (F.bytes files.old) (F.counts files.old) (F.counts files.new)
-        result (AfterMachine words.now.machine (PacksOn words.now (LanesTelling G.Gate.own gates.old gates.new words.now))) }
-    ensures writable { IfOk result CanEnd }
-    ensures written { MayTake O.taken O.faults out.old out.new result }
-    ensures kept { KeepsGates Workers gates.old gates.new result }
 {
     let design = match design_on_machine(alloc, files, words) {
         Ok(design) => design,
@@ -82,50 +55,19 @@ fn pack_telling<'a, R: Threads + Wait + Sync, F: Files, O: Sink, G: Gate + Send>
     };
     match few_bits(&design) {
         Ok(()) => {}
-        Err(no) => {
-            drop(design);
-            return Err(no);
-        }
+        Err(no) => return Err(no),
     }
     let lanes = match lanes_for(alloc, files, words, &design) {
         Ok(lanes) => lanes,
-        Err(no) => {
-            drop(design);
-            return Err(no);
-        }
+        Err(no) => return Err(no),
     };
-    pack_kept(rt, alloc, words, design, lanes, out, gates)
-}
-
-/// The traces of lanes, if their cells are few enough to be kept.
-fn pack_kept<'a, R: Threads + Wait + Sync, O: Sink, G: Gate + Send>(
-    rt: &R,
-    alloc: Global,
-    words: &'a RunWords,
-    design: OnMachine,
-    lanes: Lanes,
-    out: &mut O,
-    gates: &mut [Option<G>],
-) -> Result<Output, Refusal<'a>>
-    requires range { IsRunInRange words.now }
-    requires lanes { AreLanes (input_count design.net) lanes }
-    requires gates { MAX_WORKERS ≤ length gates.old }
-    requires tell { AllCanTell G.Gate.own gates.old }
-    ensures expected { LanesTelling G.Gate.own gates.old gates.new words.now design.machine design.timing design.net lanes [] (outcome_of result) }
-    ensures writable { IfOk result CanEnd }
-    ensures written { MayTake O.taken O.faults out.old out.new result }
-    ensures kept { KeepsGates Workers gates.old gates.new result }
-{
     match few_lane_cells(&design, &lanes) {
-        Ok(()) => match lane_traces(rt, alloc, words, design, lanes, out, gates) {
-            Ok(run) => Ok(Output::Lanes(run)),
-            Err(Memory) => Err(Refusal::Memory),
-        },
-        Err(no) => {
-            drop(design);
-            drop(lanes);
-            Err(no)
-        }
+        Ok(()) => {}
+        Err(no) => return Err(no),
+    }
+    match lane_traces(rt, alloc, words, design, lanes, out, gates) {
+        Ok(run) => Ok(Output::Lanes(run)),
+        Err(Memory) => Err(Refusal::Memory),
     }
 }
 
@@ -145,7 +87,7 @@ fn lane_traces<R: Threads + Wait + Sync, O: Sink, G: Gate + Send>(
     requires tell { AllCanTell G.Gate.own gates.old }
     ensures printed { IfOk result (λ run. AreLaneTraces design.net design.timing lanes (lanes_bytes run)) }
     ensures written { IfOk result (λ run. Takes (O.taken out.old) (O.taken out.new) (O.faults out.old) (O.faults out.new) run.wrote (lanes_bytes run)) }
-    ensures visits { OnOk result (AreVisitsOf G.Gate.own (ports_of design.machine) (design.timing.units * longest lanes) words.now.workers gates.old gates.new) }
+    ensures visits { IfOk result (λ run. TellsTurns G.Gate.own gates.old gates.new run.wrote (Some (lanes_turns words.now design lanes))) }
     ensures unwritten { OnErr result (out.new ≡ out.old) }
     ensures refused { OnErr result (gates.new ≡ gates.old) }
     ensures in_place { AreInPlace gates.old gates.new }

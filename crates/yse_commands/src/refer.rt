@@ -1,6 +1,6 @@
 //! `refer`: the trace of the reference simulation.
 
-ghost use Rattle.std.specs.Prelude.{[], ◌≡◌, IfOk};
+ghost use Rattle.std.specs.Prelude.{[], ◌≡◌, IfOk, None};
 ghost use Rattle.net_defs.specs.Loops.{IsOrder};
 ghost use Rattle.net_defs.specs.Valid.{IsValid, IsValidStimulus, IsValidTiming};
 ghost use Rattle.cmd_words.specs.Forms.{IsRunInRange};
@@ -30,7 +30,7 @@ pub fn refer<'a, F: Files>(
     ensures same_names { F.names files.new ≡ F.names files.old }
     ensures same_bytes { F.bytes files.new ≡ F.bytes files.old }
     ensures expected { Follows (F.names files.old) (F.bytes files.old) (F.counts files.old) (F.counts files.new)
-        result (ExpectedRefer words.now) }
+        (outcome_of None result) (ExpectedRefer words.now) }
     ensures writable { IfOk result CanWrite }
 {
     let Timed { net, timing } = match design_from(alloc, files, words) {
@@ -69,7 +69,7 @@ fn kept<'a>(
     requires valid { IsValid design.net }
     requires order { IsOrder design.net timing.now design.order }
     requires stimulus { IsValidStimulus stimulus.now }
-    ensures expected { KeepsTrace design.net timing.now stimulus.now [] (outcome_of result) }
+    ensures expected { KeepsTrace design.net timing.now stimulus.now [] (outcome_of None result) }
     ensures writable { IfOk result CanWrite }
 {
     match few_cells(&design.net, stimulus) {

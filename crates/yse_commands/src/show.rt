@@ -1,8 +1,8 @@
 //! `show`: the canonical text of a netlist.
 
-ghost use Rattle.std.specs.Prelude.{◌≡◌, IfOk};
+ghost use Rattle.std.specs.Prelude.{◌≡◌, IfOk, None};
 ghost use Rattle.yse_commands.specs.Outputs.{CanWrite};
-ghost use Rattle.yse_commands.specs.Refusals.{Follows};
+ghost use Rattle.yse_commands.specs.Refusals.{Follows, outcome_of};
 ghost use Rattle.yse_commands.specs.commands.Show.{ExpectedShow};
 
 use crate::output::Output;
@@ -22,7 +22,7 @@ pub fn show<'a, F: Files>(
     ensures same_names { F.names files.new ≡ F.names files.old }
     ensures same_bytes { F.bytes files.new ≡ F.bytes files.old }
     ensures expected { Follows (F.names files.old) (F.bytes files.old) (F.counts files.old) (F.counts files.new)
-        result (ExpectedShow file.now) }
+        (outcome_of None result) (ExpectedShow file.now) }
     ensures writable { IfOk result CanWrite }
 {
     let net = match netlist_in(alloc, files, file) {

@@ -1,7 +1,7 @@
 //! Runs of the machine: by workers, by rounds, and in a given order.
 
 ghost use Rattle.machine_text.specs.Machines.{ports_of};
-ghost use Rattle.std.specs.Prelude.{◌≡◌, ◌≤◌, IfOk, OnErr, length};
+ghost use Rattle.std.specs.Prelude.{◌≡◌, ◌≤◌, IfOk, None, OnErr, Some, length};
 ghost use Rattle.edge_io.specs.Writing.{Takes};
 ghost use Rattle.machine_run.specs.Visits.{AreInPlace};
 ghost use Rattle.net_defs.specs.Trace.{IsTrace};
@@ -9,10 +9,12 @@ ghost use Rattle.stim_text.specs.Orders.{IsValidOrder};
 ghost use Rattle.cmd_words.specs.Forms.{IsRunInRange};
 ghost use Rattle.limits.specs.declared.TheConstants.{MAX_WORKERS};
 ghost use Rattle.named_files.specs.Designs.{Feeds, IsRunnable};
+ghost use Rattle.named_files.specs.Outcome.{telling};
 ghost use Rattle.yse_commands.specs.Orders.{EndsInOrder};
 ghost use Rattle.yse_commands.specs.Outputs.{trace_bytes, run_bytes, CanPrint, CanWrite};
 ghost use Rattle.yse_commands.specs.Refusals.{ended_with};
-ghost use Rattle.yse_commands.specs.Visited.{AllCanTell, AreRunVisits};
+ghost use Rattle.yse_commands.specs.Told.{TellsTurns, run_turns};
+ghost use Rattle.yse_commands.specs.Visited.{AllCanTell};
 
 use crate::output::{Ending, Output, Trace, Written};
 use cmd_words::RunWords;
@@ -30,17 +32,6 @@ use std::thread::Threads;
 use stim_text::Order;
 use trace_text::TraceLine;
 
-/// How the ports of a machine step.
-#[derive(Clone, Copy)]
-pub enum Pace<'a> {
-    /// By workers, as they get to it.
-    Workers,
-    /// One event of each port, round after round.
-    Rounds,
-    /// In the order of this file.
-    Order(&'a [u8]),
-}
-
 /// The run of a design on its machine, which writes its trace.
 pub fn on_workers<R: Threads + Wait + Sync, O: Sink, G: Gate + Send>(
     rt: &R,
@@ -55,7 +46,7 @@ pub fn on_workers<R: Threads + Wait + Sync, O: Sink, G: Gate + Send>(
     requires tell { AllCanTell G.Gate.own gates.old }
     ensures printed { IfOk result (λ run. IsTrace ready.placed.net ready.placed.timing ready.stimulus (run_bytes run)) }
     ensures written { IfOk result (λ run. Takes (O.taken out.old) (O.taken out.new) (O.faults out.old) (O.faults out.new) run.wrote (run_bytes run)) }
-    ensures visits { IfOk result (λ run. AreRunVisits G.Gate.own gates.old gates.new run.wrote (ports_of ready.placed.machine) ready.placed.timing ready.placed.net ready.stimulus words.now.workers) }
+    ensures visits { IfOk result (λ run. TellsTurns G.Gate.own gates.old gates.new run.wrote (Some (run_turns (ports_of ready.placed.machine) words.now ready.placed.timing ready.placed.net ready.stimulus))) }
     ensures unwritten { OnErr result (out.new ≡ out.old) }
     ensures refused { OnErr result (gates.new ≡ gates.old) }
     ensures in_place { AreInPlace gates.old gates.new }
@@ -83,7 +74,7 @@ pub fn by_workers<R: Threads + Wait + Sync, O: Sink, G: Gate + Send>(
     requires tell { AllCanTell G.Gate.own gates.old }
     ensures printed { IfOk result (λ written. IsTrace run.net run.timing stimulus (run_bytes written)) }
     ensures written { IfOk result (λ written. Takes (O.taken out.old) (O.taken out.new) (O.faults out.old) (O.faults out.new) written.wrote (run_bytes written)) }
-    ensures visits { IfOk result (λ written. AreRunVisits G.Gate.own gates.old gates.new written.wrote (length run.image.ports) run.timing run.net stimulus words.now.workers) }
+    ensures visits { IfOk result (λ written. TellsTurns G.Gate.own gates.old gates.new written.wrote (Some (run_turns (length run.image.ports) words.now run.timing run.net stimulus))) }
     ensures unwritten { OnErr result (out.new ≡ out.old) }
     ensures refused { OnErr result (gates.new ≡ gates.old) }
     ensures in_place { AreInPlace gates.old gates.new }
@@ -137,7 +128,7 @@ pub fn by_order(
 ) -> Result<Output, Memory>
     requires range { IsRunInRange words.now }
     requires order { IsValidOrder (ports_of ready.placed.machine) order.now }
-    ensures ended { IfOk result (λ output. EndsInOrder order.now words.now.banks ready.placed.homes ready.placed.net ready.placed.machine ready.placed.timing ready.stimulus (ended_with output)) }
+    ensures ended { IfOk result (λ output. EndsInOrder order.now words.now.banks ready.placed.homes ready.placed.net ready.placed.machine ready.placed.timing ready.stimulus (telling None (ended_with output))) }
     ensures writable { IfOk result CanWrite }
 {
     let Ready { design, stimulus } = ready;

@@ -41,7 +41,7 @@ use Rattle.refusal_lines.specs.Lines.{match_line}
 use Rattle.named_files.specs.Checks.{After}
 use Rattle.named_files.specs.Outcome.{Outcome, refusal, out_of_memory}
 use Rattle.named_files.specs.Readings.{Reading}
-use Rattle.yse_commands.specs.commands.Exec.{IsTaken, RunsImage, WritesTraceOf}
+use Rattle.yse_commands.specs.commands.Exec.{IsTaken, RunsImage}
 use Rattle.named_files.specs.Images.{IsAccepted, IsImageFileOf}
 use Rattle.yse_top.proofs.ProperLemmas.{IsCheck, IsOfText, alike, short_passes}
 use Rattle.yse_commands.proofs.TracedLemmas.{whole_text}
@@ -225,7 +225,7 @@ module _ (net : Netlist) (timing : Timing) (nodes : NodeNet) (file : ImageFile) 
   pub image_taken : IsTaken net timing file
   unfolding AfterImage
   image_taken words name readings outcome short (is, inl (text, whole, next)) =
-      let Next : Image → List Reading → Outcome → Type 0 = RunsImage words WritesTraceOf net timing in
+      let Next : Image → List Reading → Outcome → Type 0 = RunsImage words net timing in
       reads_on Next readings outcome (subst (λ (t : List ℕ). After (IsImageFileOf t) (λ other. AfterMatch net timing other Next) readings outcome) (sym (whole_text name (image_text file) text whole)) next)
   image_taken words name readings outcome short (is, inr (none, inl refused)) = absurd (short_passes name (image_text file) outcome short refused)
   image_taken words name readings outcome short (is, inr (none, inr memory)) = inr memory

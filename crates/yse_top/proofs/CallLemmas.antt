@@ -1,5 +1,5 @@
 -- How a call ends, by what its words ask for and what came of the command.
-use Rattle.std.proofs.Common.{◌≡◌, ◌∙◌, sym, ap, refl, subst, inl, inr, ℕ, ◌≤◌, Bool, List, length, take, Option, Err, arith}
+use Rattle.std.proofs.Common.{◌≡◌, ◌∙◌, sym, ap, refl, subst, inl, inr, ℕ, ◌≤◌, Bool, List, length, take, Option, arith}
 use Rattle.std.proofs.lemmas.List.{length-map, length-take}
 use Rattle.edge_io.specs.Counts.{raised}
 use Rattle.edge_io.specs.declared.counts.FileCounts.{FileCounts}
@@ -11,7 +11,7 @@ use Rattle.refusal_lines.specs.declared.status.Status.{Status}
 use Rattle.yse_commands.specs.Ends.{EndsAs, MayWrite}
 use Rattle.yse_commands.specs.Expected.{Expected}
 use Rattle.yse_top.specs.Law.{IsProper}
-use Rattle.named_files.specs.Outcome.{Outcome}
+use Rattle.named_files.specs.Outcome.{Outcome, Turns, telling}
 use Rattle.named_files.specs.Readings.{Reading, AreReadings}
 use Rattle.yse_commands.specs.Refusals.{Follows}
 use Rattle.named_files.specs.Refused.{refused_of}
@@ -21,14 +21,14 @@ use Rattle.yse_commands.proofs.VisitedLemmas.{refused_writes}
 
 module _ (names : Option (List ℕ → Bool)) (bytes : Option (List ℕ → List ℕ)) (old new : FileCounts) where
   -- they are of no form
-  pub follows_usage : (words : List (List ℕ)) → ((command : Command) → HasForm words command → ⊥) → Follows names bytes old old (Err refusal.Words) (Expected words)
+  pub follows_usage : (words : List (List ℕ)) → ((command : Command) → HasForm words command → ⊥) → Follows names bytes old old (refused_of refusal.Words) (Expected words)
   unfolding Expected
-  follows_usage words none = follows_here names bytes old (Err refusal.Words) (Expected words) (inr (refl, inl (none, refl)))
+  follows_usage words none = follows_here names bytes old (refused_of refusal.Words) (Expected words) (inr (refl, inl (none, refl)))
 
   -- there was no memory to read them
-  pub follows_no_memory : (words : List (List ℕ)) → Follows names bytes old old (Err refusal.Memory) (Expected words)
+  pub follows_no_memory : (words : List (List ℕ)) → Follows names bytes old old (refused_of refusal.Memory) (Expected words)
   unfolding Expected
-  follows_no_memory words = follows_here names bytes old (Err refusal.Memory) (Expected words) (inr (refl, inr refl))
+  follows_no_memory words = follows_here names bytes old (refused_of refusal.Memory) (Expected words) (inr (refl, inr refl))
 
   -- no more files are begun than the command has
   pub few_begun : (files : List (List ℕ)) (Chain : List Reading → Outcome → Type 0) (readings : List Reading) (outcome : Outcome) → IsProper files Chain → AreReadings names bytes old new readings → Chain readings outcome → new.starts ≤ raised old.starts (length files)
@@ -41,9 +41,9 @@ module _ (names : Option (List ℕ → Bool)) (bytes : Option (List ℕ → List
       few {n} e = omega (arith, e, length-take n files)
 
 -- a refusal writes nothing, and its line is told
-pub refused_ends : (why : Refusal) (result : Status) (old new : Option (List ℕ)) (faults_old faults_new : ℕ) (TakesLine : List ℕ → Type 0) → result ≡ (refused_of why).status → new ≡ old → faults_new ≡ faults_old → TakesLine (refused_of why).line
-    → EndsAs result (refused_of why) old new faults_old faults_new TakesLine
-refused_ends why result old new faults_old faults_new TakesLine is same same_faults line = record {
+pub refused_ends : (told : Option Turns) (why : Refusal) (result : Status) (old new : Option (List ℕ)) (faults_old faults_new : ℕ) (TakesLine : List ℕ → Type 0) → result ≡ (refused_of why).status → new ≡ old → faults_new ≡ faults_old → TakesLine (refused_of why).line
+    → EndsAs result (telling told (refused_of why)) old new faults_old faults_new TakesLine
+refused_ends told why result old new faults_old faults_new TakesLine is same same_faults line = record {
   ends = inl (is, same ∙ sym (append_known-nil old), line);
   writes = λ fault. absurd (refused_writes why (subst MayWrite (sym fault ∙ is) tt));
   kept = omega (arith, same_faults);

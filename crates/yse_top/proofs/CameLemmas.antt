@@ -1,18 +1,25 @@
--- What the outcome that a call came to says of its status and of the counts.
-use Rattle.std.proofs.Common.{◌≡◌, ◌≢◌, ◌∙◌, ◌↔◌, sym, subst, inl, inr, ℕ, Bool, List, Option, None, take}
+-- What the outcome that a call came to says of its status, its output, its gates and the counts.
+use Rattle.std.proofs.Common.{◌≡◌, ◌≢◌, ◌∙◌, ◌↔◌, ◌⊎◌, sym, ap, subst, inl, inr, ℕ, Bool, List, Option, Some, None, take}
+use Rattle.std.specs.Io.KnownBytes.{append_known}
+use Rattle.crew_run.specs.declared.gate.Gate as gate
 use Rattle.edge_io.specs.Counts.{Rose}
 use Rattle.edge_io.specs.Writing.{TakesLine}
 use Rattle.edge_io.specs.declared.counts.FileCounts.{FileCounts}
 use Rattle.cmd_words.specs.Asked.{asked}
+use Rattle.cmd_words.specs.declared.command.Command.{Command}
+use Rattle.cmd_words.specs.declared.command.Command.TheVariants as command
 use Rattle.refusal_lines.specs.declared.status.Status.{Status}
 use Rattle.refusal_lines.specs.declared.status.Status.TheVariants as status
 use Rattle.yse_top.specs.code.Came.{CameTo}
 use Rattle.yse_commands.specs.Ends.{AreToldBy, EndsAs, IsDoneOrMemory, KeepsTaken, MayWrite}
-use Rattle.yse_commands.specs.Expected.{Expected}
+use Rattle.yse_commands.specs.Expected.{Expected, ExpectedOf}
+use Rattle.yse_commands.specs.Traced.{IsOutputOfFiles}
+use Rattle.yse_commands.specs.Visited.{AreTold, AreTurnsOf, TellsGates}
 use Rattle.yse_top.specs.Law.{IsProper, TellsWords}
 use Rattle.refusal_lines.specs.Lines.{write_fault_line}
-use Rattle.named_files.specs.Outcome.{Outcome, done}
+use Rattle.named_files.specs.Outcome.{Outcome, Turns}
 use Rattle.named_files.specs.Readings.{Reading}
+use Rattle.yse_commands.proofs.TracedLemmas.{AreAsTold, command_told, command_traced}
 use Rattle.yse_commands.proofs.VisitedLemmas.{whole_writes}
 use Rattle.yse_top.proofs.EndLemmas.{absent_kept, completes, fault_rose}
 
@@ -23,9 +30,84 @@ writes_other s other never may is = never (subst MayWrite is may)
 no_fault : status.WriteFault ≡ status.ReadFault → ⊥
 no_fault e = cc
 
-module _ (names : Option (List ℕ → Bool)) (bytes : Option (List ℕ → List ℕ)) (counts counts' : FileCounts) (words : List (List ℕ)) (result : Status) (old new : Option (List ℕ)) (faults_old faults_new : ℕ) (TakesLine : List ℕ → Type 0) where
+-- the chain of the command that the words ask for came to this, or a refusal that tells no gate anything
+abbrev Chained : List (List ℕ) → List Reading → Outcome → Type 0
+Chained words readings o = ((command : Command) × (asked words ≡ Some command) × ExpectedOf command readings o) ⊎ ((o.told ≡ None) × (MayWrite o.status → ⊥))
+
+chain_came : TellsWords → (words : List (List ℕ)) (readings : List Reading) (o : Outcome) → Expected words readings o → Chained words readings o
+unfolding Expected
+chain_came laws words readings o (inl (command, has, next)) = inl (command, (laws.forms words command).1 has, next)
+chain_came laws words readings o (inr (none, inl refused)) = inr (ap (λ (p : Outcome). p.told) refused.1, subst MayWrite (ap (λ (p : Outcome). p.status) refused.1))
+chain_came laws words readings o (inr (none, inr memory)) = inr (ap (λ (p : Outcome). p.told) memory, subst MayWrite (ap (λ (p : Outcome). p.status) memory))
+
+-- ---- the turns that a call told of
+
+module _ (bytes : Option (List ℕ → List ℕ)) (told : Option Turns) where
+  -- of a refusal there are none
+  untold : (s : Status) → (MayWrite s → ⊥) → told ≡ None → (command : Option Command) → AreTurnsOf bytes s command told
+  untold s never none (Some (command.Run words)) = record { written = λ may. absurd (never may); left = λ other. none }
+  untold s never none (Some (command.Exec words image)) = record { written = λ may. absurd (never may); left = λ other. none }
+  untold s never none (Some (command.Pack words)) = record { written = λ may. absurd (never may); left = λ other. none }
+  untold s never none (Some (command.Large gates cycles workers)) = record { written = λ may. absurd (never may); left = λ other. inl none }
+  untold s never none _ = none
+
+  module _ (one other : Status) (to : MayWrite other → MayWrite one) (back : MayWrite one → MayWrite other) where
+    told_alike : {Written Left : Type 0} → AreTold one Written Left → AreTold other Written Left
+    told_alike told = record { written = λ may. told.written (to may); left = λ never. told.left (λ may. never (back may)) }
+
+    turns_alike : (command : Option Command) → AreTurnsOf bytes one command told → AreTurnsOf bytes other command told
+    turns_alike (Some (command.Run words)) turns = told_alike turns
+    turns_alike (Some (command.Exec words image)) turns = told_alike turns
+    turns_alike (Some (command.Pack words)) turns = told_alike turns
+    turns_alike (Some (command.Large gates cycles workers)) turns = told_alike turns
+    turns_alike _ turns = turns
+
+module _ {G : Type 0} (p : gate.Ghosts G) (gates gates' : List (Option G)) (names : Option (List ℕ → Bool)) (bytes : Option (List ℕ → List ℕ)) (counts counts' : FileCounts) (words : List (List ℕ)) (result : Status) (old new : Option (List ℕ)) (faults_old faults_new : ℕ) (TakesLine : List ℕ → Type 0) where
   abbrev Came : Type 0
-  Came = CameTo names bytes counts counts' (Expected words) result old new faults_old faults_new TakesLine
+  Came = CameTo p gates gates' names bytes counts counts' (Expected words) result old new faults_old faults_new TakesLine
+
+  module _ (laws : TellsWords) (came : Came) where
+    read : AreAsTold bytes came.readings
+    read place reading at = (came.are.each place reading at).whole
+
+    -- the output is what the files say
+    pub trace_came : result ≡ status.Done → (output : List ℕ) × (new ≡ append_known old output) × IsOutputOfFiles bytes output (asked words)
+    trace_came is = elim came.ends.ends [
+      | inl told ↦ (came.outcome.output, told.1, by (chain_came laws words came.readings came.outcome came.expected) (sym told.0 ∙ is))
+      | inr cut ↦ absurd (writes_no_fault (sym cut.0 ∙ is))
+    ]
+      where
+        writes_no_fault : status.WriteFault ≡ status.Done → ⊥
+        writes_no_fault e = cc
+
+        by : Chained words came.readings came.outcome → came.outcome.status ≡ status.Done → IsOutputOfFiles bytes came.outcome.output (asked words)
+        by (inl (command, asks, chain)) well =
+            subst (IsOutputOfFiles bytes came.outcome.output) (sym asks) (command_traced bytes came.outcome (λ none. subst MayWrite (sym well) tt) command came.readings well read chain)
+        by (inr refused) well = absurd (refused.1 (subst MayWrite (sym well) tt))
+
+    -- the gates were told of the turns that the files say
+    pub visits_came : TellsGates p bytes gates gates' result (asked words)
+    visits_came = record {
+      told = came.outcome.told;
+      are = turns_alike bytes came.outcome.told came.outcome.status result to back (asked words) (by (chain_came laws words came.readings came.outcome came.expected));
+      visits = came.told;
+    }
+      where
+        to : MayWrite result → MayWrite came.outcome.status
+        to may = elim came.ends.ends [
+          | inl told ↦ subst MayWrite told.0 may
+          | inr cut ↦ whole_writes came.outcome.status (came.ends.writes cut.0)
+        ]
+
+        back : MayWrite came.outcome.status → MayWrite result
+        back may = elim came.ends.ends [
+          | inl told ↦ subst MayWrite (sym told.0) may
+          | inr cut ↦ subst MayWrite (sym cut.0) tt
+        ]
+
+        by : Chained words came.readings came.outcome → AreTurnsOf bytes came.outcome.status (asked words) came.outcome.told
+        by (inl (command, asks, chain)) = subst (λ (c : Option Command). AreTurnsOf bytes came.outcome.status c came.outcome.told) (sym asks) (command_told bytes came.outcome command came.readings read chain)
+        by (inr refused) = untold bytes came.outcome.told came.outcome.status refused.1 refused.0 (asked words)
 
   -- words are refused exactly where they are of no form
   pub words_came : TellsWords → Came → result ≢ status.Memory → (result ≡ status.Words) ↔ (asked words ≡ None)
@@ -59,9 +141,9 @@ module _ (names : Option (List ℕ → Bool)) (bytes : Option (List ℕ → List
       | inr cut ↦ absent_kept names bytes counts counts' files (Expected words) proper came.readings came.outcome came.are came.expected (writes_other came.outcome.status status.ReadFault (λ m. m) (whole_writes came.outcome.status (came.ends.writes cut.0)))
     ]
 
-    pub completes_came : Came → (readings : List Reading) (output : List ℕ) → Expected words readings (done output) → AreToldBy names bytes readings → (Rose counts.faults counts'.faults → ⊥) → (Rose faults_old faults_new → ⊥) → IsDoneOrMemory result
-    completes_came came readings output expected told kept written = elim came.ends.ends [
-      | inl as_told ↦ subst IsDoneOrMemory (sym as_told.0) (completes names bytes counts counts' files (Expected words) proper came.readings came.outcome came.are came.expected readings output expected told kept)
+    pub completes_came : Came → (readings : List Reading) (outcome : Outcome) → Expected words readings outcome → outcome.status ≡ status.Done → AreToldBy names bytes readings → (Rose counts.faults counts'.faults → ⊥) → (Rose faults_old faults_new → ⊥) → IsDoneOrMemory result
+    completes_came came readings outcome expected well told kept written = elim came.ends.ends [
+      | inl as_told ↦ subst IsDoneOrMemory (sym as_told.0) (completes names bytes counts counts' files (Expected words) proper came.readings came.outcome came.are came.expected readings outcome expected well told kept)
       | inr cut ↦ absurd (written cut.2)
     ]
 

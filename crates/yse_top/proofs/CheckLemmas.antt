@@ -52,6 +52,7 @@ loops_alike : (o p : Outcome) (l k : List ℕ) → o ≡ refusal status.Loop l �
 loops_alike o p l k e f = record {
   status = ap (λ (x : Outcome). x.status) e ∙ sym (ap (λ (x : Outcome). x.status) f);
   output = ap (λ (x : Outcome). x.output) e ∙ sym (ap (λ (x : Outcome). x.output) f);
+  told = ap (λ (x : Outcome). x.told) e ∙ sym (ap (λ (x : Outcome). x.told) f);
   line = λ other_status. absurd (other_status (ap (λ (x : Outcome). x.status) e));
 }
 

@@ -35,6 +35,7 @@ text_is_command _ is = absurd is
 end_is_command : (s : Status) → IsOfEnd s → IsOfCommand s
 end_is_command status.Done is = tt
 end_is_command status.Unfinished is = tt
+end_is_command status.Memory is = tt
 end_is_command _ is = absurd is
 
 pub not_words : (s : Status) → IsOfCommand s → s ≢ status.Words

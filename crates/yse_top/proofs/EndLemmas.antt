@@ -9,7 +9,7 @@ use Rattle.refusal_lines.specs.declared.status.Status.{Status}
 use Rattle.refusal_lines.specs.declared.status.Status.TheVariants as status
 use Rattle.yse_commands.specs.Ends.{AreToldBy, IsDoneOrMemory}
 use Rattle.yse_top.specs.Law.{IsProper, AgreeOn}
-use Rattle.named_files.specs.Outcome.{Outcome, done}
+use Rattle.named_files.specs.Outcome.{Outcome}
 use Rattle.named_files.specs.Readings.{Reading, IsReading, AreReadings}
 
 -- the member after a list
@@ -71,10 +71,13 @@ module _ (names : Option (List ℕ → Bool)) (bytes : Option (List ℕ → List
       by None whole some = absurd (some refl)
       by (Some read) whole some = ap Some (whole ∙ ap told same) ∙ sym (are place other at).1
 
-  pub completes : (read : List Reading) (outcome : Outcome) → AreReadings names bytes old new read → Chain read outcome → (readings : List Reading) (output : List ℕ) → Chain readings (done output) → AreToldBy names bytes readings → (Rose old.faults new.faults → ⊥) → IsDoneOrMemory outcome.status
-  completes read outcome are came readings output expected told kept =
-      done_or_memory outcome.status (λ other. (proper.one read readings outcome (done output) came expected agree other (λ e. cc)).status)
+  pub completes : (read : List Reading) (outcome : Outcome) → AreReadings names bytes old new read → Chain read outcome → (readings : List Reading) (other : Outcome) → Chain readings other → other.status ≡ status.Done → AreToldBy names bytes readings → (Rose old.faults new.faults → ⊥) → IsDoneOrMemory outcome.status
+  completes read outcome are came readings other expected well told kept =
+      done_or_memory outcome.status (λ known. (proper.one read readings outcome other came expected agree known (λ memory. clash (sym well ∙ memory))).status ∙ well)
     where
+      clash : status.Done ≡ status.Memory → ⊥
+      clash e = cc
+
       agree : AgreeOn read readings
       agree place one other at at_too same =
           told_of bytes one other (are.each place one at).whole (λ none. kept ((are.each place one at).fault none)) readings place told at_too same

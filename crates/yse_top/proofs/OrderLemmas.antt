@@ -86,7 +86,7 @@ module _ (net : Netlist) (timing : Timing) (stimulus : Stimulus) where
 
   pub order_ending : (order : Order) (banks : ℕ) (choice : HomeChoice) (machine : Machine) → HasOneSimulation net timing stimulus → DecidesOrder order banks choice net machine timing stimulus → IsEnding (EndsInOrder order banks choice net machine timing stimulus)
   order_ending order banks choice machine simulation decides = record {
-    one = λ o p is is_too. alike o p (ends_one is.states is_too.states is.image is_too.image is.state is_too.state o p
+    one = λ o p is is_too n m. alike o p (ends_one is.states is_too.states is.image is_too.image is.state is_too.state o p
         (simulation.only is.states is.simulation ∙ sym (simulation.only is_too.states is_too.simulation))
         (decides is.image is_too.image is.state is_too.state is.made is_too.made is.after is_too.after) is.ends is_too.ends);
     ends = λ o is. ends_status is.states is.image is.state o is.ends;
@@ -137,7 +137,7 @@ module _ (net : Netlist) (timing : Timing) (stimulus : Stimulus) where
     told : IsKnown (AllDone has.chosen.compiled.image (turn_count timing stimulus) after.1) → HasOutcome (Ends (EndsInOrder order banks choice net machine timing stimulus))
     told (inl all) =
         let o : Outcome = done (to simulation.states (cycle_count stimulus)) in
-        outcome_ends (EndsInOrder order banks choice net machine timing stimulus) o (ending o (inl (all, refl))) tt
+        outcome_ends (EndsInOrder order banks choice net machine timing stimulus) o (ending o (inl (all, refl))) (λ e. cc)
     told (inr some) =
         let o : Outcome = unfinished (rows_done has.chosen.compiled.image after.1) (cycle_count stimulus) (to simulation.states (rows_done has.chosen.compiled.image after.1)) in
-        outcome_ends (EndsInOrder order banks choice net machine timing stimulus) o (ending o (inr (some, refl))) tt
+        outcome_ends (EndsInOrder order banks choice net machine timing stimulus) o (ending o (inr (some, refl))) (λ e. cc)

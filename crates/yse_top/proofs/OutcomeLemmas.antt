@@ -2,11 +2,11 @@
 use Rattle.std.proofs.Common.{◌≡◌, ◌≢◌, sym, refl, subst, ◌⊎◌, inl, inr, ℕ, zero, suc, ◌≤◌, List, [], ◌∷◌, length, Option, Some, None, Result, Ok, Err}
 use Rattle.limits.specs.declared.TheConstants.{MAX_TEXT_BYTES}
 use Rattle.refusal_lines.specs.declared.status.Status.TheVariants as status
-use Rattle.named_files.specs.Checks.{After, AfterFile, Ends, Writes, text_of, read_fault}
+use Rattle.named_files.specs.Checks.{After, AfterFile, Ends, WritesTold, text_of, read_fault}
 use Rattle.yse_top.specs.Law.{AreGiven, HasOutcome}
-use Rattle.named_files.specs.Outcome.{Outcome, done}
+use Rattle.named_files.specs.Outcome.{Outcome, Turns, done, telling}
 use Rattle.named_files.specs.Readings.{Reading}
-use Rattle.yse_top.proofs.ProperLemmas.{IsOfEnd, IsAnswered, answered, of_end_not, text_check, passed_short}
+use Rattle.yse_top.proofs.ProperLemmas.{IsAnswered, answered, text_check, passed_short}
 
 given_none : (give : ℕ → List ℕ → Option (List ℕ)) → AreGiven give []
 given_none give place reading at = cc
@@ -40,9 +40,8 @@ outcome_file file Next on = record { some = λ give. by give (give zero file) re
         (record { file = file; bytes = Some bytes } ∷ s.0, s.1, (refl, s.2), given_first give file (Some bytes) s.0 is s.3, s.4)
 
 -- an end
-pub outcome_ends : (IsEnd : Outcome → Type 0) (o : Outcome) → IsEnd o → IsOfEnd o.status → HasOutcome (Ends IsEnd)
-outcome_ends IsEnd o is ends =
-    record { some = λ give. ([], o, (refl, inl is), given_none give, of_end_not o.status status.Memory ends (λ e. e)) }
+pub outcome_ends : (IsEnd : Outcome → Type 0) (o : Outcome) → IsEnd o → o.status ≢ status.Memory → HasOutcome (Ends IsEnd)
+outcome_ends IsEnd o is known = record { some = λ give. ([], o, (refl, inl is), given_none give, known) }
 
-pub outcome_writes : (IsOutput : List ℕ → Type 0) (s : List ℕ) → IsOutput s → HasOutcome (Ends (Writes IsOutput))
-outcome_writes IsOutput s is = outcome_ends (Writes IsOutput) (done s) (s, is, refl) tt
+pub outcome_writes : (told : Option Turns) (IsOutput : List ℕ → Type 0) (s : List ℕ) → IsOutput s → HasOutcome (Ends (WritesTold told IsOutput))
+outcome_writes told IsOutput s is = outcome_ends (WritesTold told IsOutput) (telling told (done s)) (s, is, refl) (λ e. cc)

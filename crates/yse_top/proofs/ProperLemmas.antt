@@ -5,10 +5,10 @@ use Rattle.std.proofs.lemmas.Bool.{leb-true}
 use Rattle.limits.specs.declared.TheConstants.{MAX_TEXT_BYTES}
 use Rattle.refusal_lines.specs.declared.status.Status.{Status}
 use Rattle.refusal_lines.specs.declared.status.Status.TheVariants as status
-use Rattle.named_files.specs.Checks.{After, AfterRead, AfterFile, Ends, Writes, text_of, read_fault}
+use Rattle.named_files.specs.Checks.{After, AfterRead, AfterFile, Ends, WritesTold, text_of, read_fault}
 use Rattle.yse_top.specs.Law.{AreAlike, AgreeOn, HasCause, IsProper}
 use Rattle.refusal_lines.specs.Lines.{too_long_line}
-use Rattle.named_files.specs.Outcome.{Outcome, done, refusal, out_of_memory}
+use Rattle.named_files.specs.Outcome.{Outcome, Turns, done, refusal, out_of_memory, telling}
 use Rattle.named_files.specs.Readings.{Reading}
 use Rattle.yse_commands.proofs.AnswerLemmas.{never_both, passed_once, passes, refused_once, refuses}
 
@@ -29,10 +29,11 @@ IsOfText status.ImageMatch = ⊤
 IsOfText status.FaultList = ⊤
 IsOfText _ = ⊥
 
--- the statuses that an end may have
+-- the statuses that an end may have, where memory may be wanting after the gates were told
 abbrev pub IsOfEnd : Status → Type 0
 IsOfEnd status.Done = ⊤
 IsOfEnd status.Unfinished = ⊤
+IsOfEnd status.Memory = ⊤
 IsOfEnd _ = ⊥
 
 -- one outcome is like itself
@@ -40,6 +41,7 @@ pub alike : (one other : Outcome) → one ≡ other → AreAlike one other
 alike one other same = record {
   status = ap (λ (o : Outcome). o.status) same;
   output = ap (λ (o : Outcome). o.output) same;
+  told = ap (λ (o : Outcome). o.told) same;
   line = λ other_status. ap (λ (o : Outcome). o.line) same;
 }
 
@@ -90,9 +92,9 @@ at_most_once Checked check = record {
 pub answered : {X : Type 0} (Checked : Result X Outcome → Type 0) → IsCheck Checked → IsAnswered Checked
 answered Checked check = record { once = at_most_once Checked check; some = check.some }
 
--- an end is one outcome
+-- an end is one outcome, but for want of memory
 pub record IsEnding (IsEnd : Outcome → Type 0) : Type 0 where
-  pub one : (o p : Outcome) → IsEnd o → IsEnd p → AreAlike o p
+  pub one : (o p : Outcome) → IsEnd o → IsEnd p → o.status ≢ status.Memory → p.status ≢ status.Memory → AreAlike o p
   pub ends : (o : Outcome) → IsEnd o → IsOfEnd o.status
 
 -- ---- causes
@@ -264,7 +266,7 @@ module _ (IsEnd : Outcome → Type 0) where
   proper_ends end = record { one = one; begun = λ readings o ends. begun_none readings [] ends.0; cause = cause }
     where
       one : (readings others : List Reading) (o p : Outcome) → Ends IsEnd readings o → Ends IsEnd others p → AgreeOn readings others → o.status ≢ status.Memory → p.status ≢ status.Memory → AreAlike o p
-      one readings others o p (none, inl is) (none_too, inl is_too) agree n m = end.one o p is is_too
+      one readings others o p (none, inl is) (none_too, inl is_too) agree n m = end.one o p is is_too n m
       one readings others o p (none, inl is) (none_too, inr memory) agree n m = absurd (m (memory_status p memory))
       one readings others o p (none, inr memory) (none_too, either) agree n m = absurd (n (memory_status o memory))
 
@@ -274,8 +276,22 @@ module _ (IsEnd : Outcome → Type 0) where
       cause readings o (none, inr memory) = cause_memory readings o none memory
 
 -- an output that is one
-pub writes_ending : (IsOutput : List ℕ → Type 0) → ((s t : List ℕ) → IsOutput s → IsOutput t → s ≡ t) → IsEnding (Writes IsOutput)
-writes_ending IsOutput only = record {
-  one = λ o p is is_too. subst (λ (q : Outcome). AreAlike q p) (sym is.2) (subst (AreAlike (done is.0)) (sym is_too.2) (record { status = refl; output = only is.0 is_too.0 is.1 is_too.1; line = λ other. refl }));
+pub writes_ending : (told : Option Turns) (IsOutput : List ℕ → Type 0) → ((s t : List ℕ) → IsOutput s → IsOutput t → s ≡ t) → IsEnding (WritesTold told IsOutput)
+writes_ending told IsOutput only = record {
+  one = λ o p is is_too n m. subst (λ (q : Outcome). AreAlike q p) (sym is.2) (subst (AreAlike (telling told (done is.0))) (sym is_too.2)
+      (record { status = refl; output = only is.0 is_too.0 is.1 is_too.1; told = refl; line = λ other. refl }));
   ends = λ o is. subst (λ (p : Outcome). IsOfEnd p.status) (sym is.2) tt;
 }
+
+-- an end after whose visits memory may be wanting
+pub full_ending : (told : Option Turns) (IsEnd : Outcome → Type 0) → IsEnding IsEnd → IsEnding (λ o. IsEnd o ⊎ (o ≡ telling told out_of_memory))
+full_ending told IsEnd end = record { one = one; ends = ends }
+  where
+    one : (o p : Outcome) → IsEnd o ⊎ (o ≡ telling told out_of_memory) → IsEnd p ⊎ (p ≡ telling told out_of_memory) → o.status ≢ status.Memory → p.status ≢ status.Memory → AreAlike o p
+    one o p (inl is) (inl is_too) n m = end.one o p is is_too n m
+    one o p (inl is) (inr full) n m = absurd (m (ap (λ (q : Outcome). q.status) full))
+    one o p (inr full) is_too n m = absurd (n (ap (λ (q : Outcome). q.status) full))
+
+    ends : (o : Outcome) → IsEnd o ⊎ (o ≡ telling told out_of_memory) → IsOfEnd o.status
+    ends o (inl is) = end.ends o is
+    ends o (inr full) = subst (λ (p : Outcome). IsOfEnd p.status) (sym full) tt

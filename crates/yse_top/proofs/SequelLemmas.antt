@@ -1,5 +1,5 @@
 -- A compiled image that was written is run as the design itself: what the calls that ended well read is read again.
-use Rattle.std.proofs.Common.{◌≡◌, ◌≢◌, ◌∙◌, sym, ap, refl, subst, ◌⊎◌, inl, inr, ℕ, zero, suc, ◌≤◌, List, [], ◌∷◌, length, Option, Some, None, Result, Ok, Err, false}
+use Rattle.std.proofs.Common.{◌≡◌, ◌≢◌, ◌∙◌, sym, ap, refl, subst, ◌⊎◌, inl, inr, ℕ, zero, suc, ◌≤◌, List, [], ◌∷◌, length, Option, Some, None, Result, Ok, Err}
 use Rattle.std.specs.Prelude.{IfSome}
 use Rattle.limits.specs.declared.TheConstants.{MAX_TEXT_BYTES}
 use Rattle.bench_read.specs.Faults as bench_faults
@@ -11,7 +11,7 @@ use Rattle.image_defs.specs.declared.image.Image.{Image}
 use Rattle.image_file.specs.Files.{image_text}
 use Rattle.machine_text.specs.declared.machine.Machine.{Machine}
 use Rattle.machine_text.specs.Machines as machine_text
-use Rattle.machine_text.specs.Machines.{default_machine, IsValid as IsValidMachine}
+use Rattle.machine_text.specs.Machines.{default_machine, IsValid as IsValidMachine, ports_of}
 use Rattle.net_defs.specs.declared.homes.HomeChoice.{HomeChoice}
 use Rattle.net_defs.specs.declared.netlist.Netlist.{Netlist}
 use Rattle.net_defs.specs.declared.stimulus.Stimulus.{Stimulus}
@@ -28,16 +28,19 @@ use Rattle.yse_compile.specs.Designs.{IsAcyclic}
 use Rattle.image_defs.specs.declared.file.Claims.{Claims}
 use Rattle.refusal_lines.specs.declared.status.Status.{Status}
 use Rattle.refusal_lines.specs.declared.status.Status.TheVariants as status
-use Rattle.named_files.specs.Checks.{After, AfterRead, AfterFile, Ends, HasNoLoop, HasRoom, IsListOf, IsMachineOf, IsNetlistOf, IsStimulusOf, Writes, listing, read_fault, text_of}
+use Rattle.named_files.specs.Checks.{After, AfterRead, AfterFile, Ends, HasNoLoop, HasRoom, IsListOf, IsMachineOf, IsNetlistOf, IsStimulusOf, Writes, WritesTold, listing, read_fault, text_of}
 use Rattle.named_files.specs.Files.{AfterFit, AfterImage, AfterList, AfterMachine, AfterMatch, AfterNetlist, AfterStimulus}
 use Rattle.named_files.specs.Images.{IsImageFileOf}
-use Rattle.named_files.specs.Outcome.{Outcome, done, out_of_memory}
+use Rattle.named_files.specs.Outcome.{Outcome, Turns, out_of_memory}
+use Rattle.named_files.specs.Designs.{Placed}
+use Rattle.named_files.specs.Passing.{AfterPlaced, AfterPlacedOn, Continuation, placed}
 use Rattle.named_files.specs.Readings.{Reading}
+use Rattle.yse_commands.specs.Told.{run_turns}
 use Rattle.yse_commands.specs.declared.layout.Sheet.TheVariants as sheet
 use Rattle.yse_commands.specs.commands.Compile.{IsImageTextOf}
-use Rattle.yse_commands.specs.commands.Exec.{ExpectedExec, IsTaken, OnImage, RunsImage, WritesTraceOf}
-use Rattle.yse_commands.specs.commands.Layout.{ExpectedLayout, ExpectedLayoutOn, IsSheetOf, LaysOut}
-use Rattle.yse_commands.specs.commands.Run.{EndsBy, EndsWithin, ExpectedOn, ExpectedRun, OnTiming, WritesTrace}
+use Rattle.yse_commands.specs.commands.Exec.{ExpectedExec, IsTaken, OnImage, RunsImage}
+use Rattle.yse_commands.specs.commands.Layout.{ExpectedLayout, IsSheetOf}
+use Rattle.yse_commands.specs.commands.Run.{ExpectedRun, RunsOn, RunsTo}
 use Rattle.yse_commands.proofs.AnswerLemmas.{never_both, passed_once}
 use Rattle.yse_top.specs.Sequel.{AreHeld, AreOfOneDesign, Leaves}
 use Rattle.yse_top.proofs.CheckLemmas.{trace_only}
@@ -76,7 +79,7 @@ let_pass Checked Next readings o well never (inr (none, inr memory)) = absurd (o
 
 -- an end with this output, for want of memory, or at a file that could not be read
 abbrev pub IsEndOf : List ℕ → Outcome → Type 0
-IsEndOf output o = (o ≡ done output) ⊎ (o.status ≡ status.Memory) ⊎ (o.status ≡ status.ReadFault)
+IsEndOf output o = ((o.status ≡ status.Done) × (o.output ≡ output)) ⊎ (o.status ≡ status.Memory) ⊎ (o.status ≡ status.ReadFault)
 
 module _ (held : List ℕ → List ℕ) where
   -- a text that was read, and what came of it
@@ -190,10 +193,40 @@ module _ (held : List ℕ → List ℕ) where
         let order = let_pass (HasNoLoop net timing) (λ passed. After (HasRoom choice net machine timing) (λ fits. Next)) readings o well (λ e. other_end o status.Loop well (ap (λ (p : Outcome). p.status) e.2) (λ e. cc)) after in
         (order.1, (let_pass (HasRoom choice net machine timing) (λ fits. Next) readings o well (λ e. other_end o status.Overfull well (ap (λ (p : Outcome). p.status) e.4) (λ e. cc)) order.2).2)
 
+    -- a design that fits its machine
+    record PlacedWell (words : RunWords) (Next : Continuation Placed) (o : Outcome) : Type 0 where
+      machine : Machine
+      valid : IsValidMachine machine
+      net : Netlist
+      timing : Timing
+      design : DesignHeld words.netlist words.last words.timing net timing
+      acyclic : IsAcyclic net timing
+      others : List Reading
+      are : AreHeld held others
+      next : Next (placed words machine net timing) others o
+
+    placed_well : (words : RunWords) (Next : Continuation Placed) (readings : List Reading) (o : Outcome) → AreHeld held readings → o.status ≡ status.Done → AfterPlaced words Next readings o → PlacedWell words Next o
+    placed_well words Next readings o are well after =
+        let first = machine_well words.machine (λ machine. AfterPlacedOn words machine Next) readings o are well after in
+        let machine = first.machine in
+        let on = netlist_well words (λ net timing. AfterFit words.homes net machine timing (Next (placed words machine net timing))) first.others o first.are well first.next in
+        let fits = fit_well words.homes on.net machine on.timing (Next (placed words machine on.net on.timing)) on.others o well on.ends in
+        record {
+          machine = machine;
+          valid = first.valid;
+          net = on.net;
+          timing = on.timing;
+          design = on.design;
+          acyclic = fits.0;
+          others = on.others;
+          are = on.are;
+          next = fits.1;
+        }
+
     -- what such an end writes
-    written_well : (IsOutput : List ℕ → Type 0) (readings : List Reading) (o : Outcome) → o.status ≡ status.Done → Ends (Writes IsOutput) readings o → IsOutput o.output
-    written_well IsOutput readings o well (none, inl (text, is, same)) = subst IsOutput (sym (ap (λ (p : Outcome). p.output) same)) is
-    written_well IsOutput readings o well (none, inr memory) = absurd (other_end o status.Memory well (memory_status o memory) (λ e. cc))
+    written_well : (told : Option Turns) (IsOutput : List ℕ → Type 0) (readings : List Reading) (o : Outcome) → o.status ≡ status.Done → Ends (WritesTold told IsOutput) readings o → IsOutput o.output
+    written_well told IsOutput readings o well (none, inl (text, is, same)) = subst IsOutput (sym (ap (λ (p : Outcome). p.output) same)) is
+    written_well told IsOutput readings o well (none, inr memory) = absurd (other_end o status.Memory well (memory_status o memory) (λ e. cc))
 
     -- the text of the image of a design that the files hold
     pub record CompiledWell (words : RunWords) (o : Outcome) : Type 0 where
@@ -206,17 +239,15 @@ module _ (held : List ℕ → List ℕ) where
 
     pub compiled_well : (words : RunWords) (readings : List Reading) (o : Outcome) → AreHeld held readings → o.status ≡ status.Done → ExpectedLayout sheet.Image words readings o → CompiledWell words o
     compiled_well words readings o are well after =
-        let first = machine_well words.machine (ExpectedLayoutOn sheet.Image words) readings o are well after in
-        let on = netlist_well words (LaysOut sheet.Image words.homes first.machine) first.others o first.are well first.next in
-        let IsText : List ℕ → Type 0 = IsSheetOf sheet.Image words.homes on.net first.machine on.timing in
-        let fits = fit_well words.homes on.net first.machine on.timing (Ends (Writes IsText)) on.others o well on.ends in
+        let IsText : Placed → List ℕ → Type 0 = λ design. IsSheetOf sheet.Image words.homes design.net design.machine design.timing in
+        let on = placed_well words (λ design. Ends (Writes (IsText design))) readings o are well after in
         record {
-          machine = first.machine;
-          valid = first.valid;
+          machine = on.machine;
+          valid = on.valid;
           net = on.net;
           timing = on.timing;
           design = on.design;
-          text = written_well IsText on.others o well fits.1;
+          text = written_well None (IsText (placed words on.machine on.net on.timing)) on.others o well on.next;
         }
 
     -- the trace of a design and a stimulus that the files hold
@@ -231,27 +262,25 @@ module _ (held : List ℕ → List ℕ) where
       pub reads : stim.Reads (input_count net) text stimulus
       pub trace : IsTrace net timing stimulus o.output
 
-    pub ran_well : (words : RunWords) (readings : List Reading) (o : Outcome) → AreHeld held readings → o.status ≡ status.Done → ExpectedRun words false None readings o → RanWell words o
-    unfolding AfterStimulus EndsBy
+    pub ran_well : (words : RunWords) (readings : List Reading) (o : Outcome) → AreHeld held readings → o.status ≡ status.Done → ExpectedRun words readings o → RanWell words o
+    unfolding AfterStimulus
     ran_well words readings o are well after =
-        let End = EndsWithin false None words in
-        let first = machine_well words.machine (ExpectedOn words End) readings o are well after in
-        let on = netlist_well words (OnTiming words End first.machine) first.others o first.are well first.next in
+        let Run : Placed → Stimulus → List Reading → Outcome → Type 0 = λ design stimulus. RunsOn words (record { placed = design; stimulus = stimulus }) in
+        let on = placed_well words (λ design. AfterStimulus words.stimulus design.net (Run design)) readings o are well after in
         let net = on.net in
-        let Run : Stimulus → List Reading → Outcome → Type 0 = End first.machine on.timing net in
-        let fits = fit_well words.homes net first.machine on.timing (AfterStimulus words.stimulus net Run) on.others o well on.ends in
-        let second = read_well words.stimulus (λ text. After (IsStimulusOf text net) Run) on.others o on.are well fits.1 in
-        let stimulus = let_pass (IsStimulusOf second.text net) Run second.others o well (λ e. other_end o status.Stimulus well (ap (λ (p : Outcome). p.status) e.2) (λ e. cc)) second.next in
+        let Then : Stimulus → List Reading → Outcome → Type 0 = Run (placed words on.machine net on.timing) in
+        let second = read_well words.stimulus (λ text. After (IsStimulusOf text net) Then) on.others o on.are well on.next in
+        let stimulus = let_pass (IsStimulusOf second.text net) Then second.others o well (λ e. other_end o status.Stimulus well (ap (λ (p : Outcome). p.status) e.2) (λ e. cc)) second.next in
         record {
           net = net;
           timing = on.timing;
           design = on.design;
-          acyclic = fits.0;
+          acyclic = on.acyclic;
           text = second.text;
           passes = second.passes;
           stimulus = stimulus.0;
           reads = stimulus.1;
-          trace = written_well (IsTrace net on.timing stimulus.0) second.others o well stimulus.2;
+          trace = written_well (Some (run_turns (ports_of on.machine) words on.timing net stimulus.0)) (IsTrace net on.timing stimulus.0) second.others o well stimulus.2;
         }
 
     -- files hold one design
@@ -316,14 +345,14 @@ module _ (held : List ℕ → List ℕ) where
 
       -- the image that was compiled
       image_on : (words : RunWords) (name : List ℕ) (net : Netlist) (timing : Timing) (file : ImageFile) → IsTaken net timing file → length (image_text file) ≤ MAX_TEXT_BYTES → held name ≡ image_text file → (readings : List Reading) → AreHeld held readings
-          → ((others : List Reading) → AreHeld held others → RunsImage words WritesTraceOf net timing file.image others o → IsEndOf output o) → AfterImage name net timing (RunsImage words WritesTraceOf net timing) readings o → IsEndOf output o
+          → ((others : List Reading) → AreHeld held others → RunsImage words net timing file.image others o → IsEndOf output o) → AfterImage name net timing (RunsImage words net timing) readings o → IsEndOf output o
       unfolding AfterImage
       image_on words name net timing file taken short is readings are on after = by readings are after
         where
           Next : List ℕ → List Reading → Outcome → Type 0
-          Next text = After (IsImageFileOf text) (λ found. AfterMatch net timing found (RunsImage words WritesTraceOf net timing))
+          Next text = After (IsImageFileOf text) (λ found. AfterMatch net timing found (RunsImage words net timing))
 
-          taken_on : (others : List Reading) → AreHeld held others → (RunsImage words WritesTraceOf net timing file.image others o ⊎ (o ≡ out_of_memory)) → IsEndOf output o
+          taken_on : (others : List Reading) → AreHeld held others → (RunsImage words net timing file.image others o ⊎ (o ≡ out_of_memory)) → IsEndOf output o
           taken_on others held_too (inl run) = on others held_too run
           taken_on others held_too (inr memory) = ends_full memory
 
@@ -338,24 +367,25 @@ module _ (held : List ℕ → List ℕ) where
                   (taken words name others o short (refl, subst (λ (t : List ℕ). AfterRead name (Some t) Next others o) (known ∙ ap held file_is ∙ is) here))
 
       -- the trace
-      trace_on : (net : Netlist) (timing : Timing) (stimulus : Stimulus) → IsAcyclic net timing → IsTrace net timing stimulus output → (readings : List Reading) → WritesTrace net timing stimulus readings o → IsEndOf output o
-      trace_on net timing stimulus acyclic trace readings (none, inl (text, is, same)) =
-          inl (same ∙ ap done (trace_only net timing stimulus (laws.one_simulation net timing stimulus acyclic) text output is trace))
-      trace_on net timing stimulus acyclic trace readings (none, inr memory) = ends_full memory
+      trace_on : (told : Option Turns) (net : Netlist) (timing : Timing) (stimulus : Stimulus) → IsAcyclic net timing → IsTrace net timing stimulus output → (readings : List Reading) → Ends (WritesTold told (IsTrace net timing stimulus)) readings o → IsEndOf output o
+      trace_on told net timing stimulus acyclic trace readings (none, inl (text, is, same)) =
+          inl (ap (λ (p : Outcome). p.status) same, ap (λ (p : Outcome). p.output) same ∙ trace_only net timing stimulus (laws.one_simulation net timing stimulus acyclic) text output is trace)
+      trace_on told net timing stimulus acyclic trace readings (none, inr memory) = ends_full memory
 
       exec_on : (words : RunWords) (name : List ℕ) (net : Netlist) (timing : Timing) (file : ImageFile) (text : List ℕ) (stimulus : Stimulus) → DesignHeld words.netlist words.last words.timing net timing → IsAcyclic net timing
           → IsTaken net timing file → length (image_text file) ≤ MAX_TEXT_BYTES → held name ≡ image_text file → text_of words.stimulus (held words.stimulus) ≡ Ok text → stim.Reads (input_count net) text stimulus → IsTrace net timing stimulus output
           → (readings : List Reading) → AreHeld held readings → ExpectedExec words name readings o → IsEndOf output o
       unfolding AfterStimulus
       exec_on words name net timing file text stimulus design acyclic taken short is passes reads trace readings are after =
-          let Run : Image → List Reading → Outcome → Type 0 = RunsImage words WritesTraceOf net timing in
-          netlist_on words net timing (OnImage words name WritesTraceOf) design readings are (λ others held_too next.
+          let Run : Image → List Reading → Outcome → Type 0 = RunsImage words net timing in
+          let Then : Stimulus → List Reading → Outcome → Type 0 = RunsTo (length file.image.ports) words timing net in
+          netlist_on words net timing (OnImage words name) design readings are (λ others held_too next.
           check_on (HasNoLoop net timing) (λ passed. AfterImage name net timing Run) tt (λ y passed. refl) (λ p refused. acyclic refused.0 refused.1.circle) others (λ image.
           image_on words name net timing file taken short is others held_too (λ rest held_rest run.
-          file_on words.stimulus (λ t. After (IsStimulusOf t net) (WritesTraceOf file.image timing net)) text passes rest held_rest (λ last held_last read.
-          check_on (IsStimulusOf text net) (WritesTraceOf file.image timing net) stimulus (λ y r. (laws.stimuli (input_count net)).one text y stimulus r reads)
+          file_on words.stimulus (λ t. After (IsStimulusOf t net) Then) text passes rest held_rest (λ last held_last read.
+          check_on (IsStimulusOf text net) Then stimulus (λ y r. (laws.stimuli (input_count net)).one text y stimulus r reads)
           (λ p e. never_faulty (stim.Reads (input_count net)) (stim.first_fault (input_count net)) (laws.stimuli (input_count net)) text stimulus reads e.0 e.1) last
-          (trace_on net timing stimulus acyclic trace last) read) run) image) next) after
+          (trace_on (Some (run_turns (length file.image.ports) words timing net stimulus)) net timing stimulus acyclic trace last) read) run) image) next) after
 
 -- ---- the three calls
 
@@ -397,7 +427,7 @@ module _ (laws : Laws) (before after : List ℕ → List ℕ) (compile run exec 
       (subst (λ (s : List ℕ). length s ≤ MAX_TEXT_BYTES) text.text short) (leaves.image ∙ text.text)
       (subst (λ (s : List ℕ). text_of s (after s) ≡ Ok second.text) stimulus_same second.passes) second.reads second.trace third are expected
 
-  pub sequel_ends : (first second third : List Reading) → ExpectedLayout sheet.Image compile first compiled → AreHeld before first → compiled.status ≡ status.Done → ExpectedRun run false None second ran → AreHeld after second → ran.status ≡ status.Done
+  pub sequel_ends : (first second third : List Reading) → ExpectedLayout sheet.Image compile first compiled → AreHeld before first → compiled.status ≡ status.Done → ExpectedRun run second ran → AreHeld after second → ran.status ≡ status.Done
       → AreHeld after third → ExpectedExec exec image third outcome → IsEndOf ran.output outcome
   sequel_ends first second third compiles held_first well runs held_second well_too are expected =
       image_ends (compiled_well before laws compile first compiled held_first well compiles) (ran_well after laws run second ran held_second well_too runs) third are expected

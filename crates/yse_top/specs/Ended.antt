@@ -12,18 +12,19 @@ use Rattle.refusal_lines.specs.declared.status.Status.{Status}
 use Rattle.refusal_lines.specs.declared.status.Status.TheVariants.{Done, Memory, ReadFault, Words, WriteFault}
 use Rattle.refusal_lines.specs.Lines.{memory_line}
 use Rattle.refusal_lines.specs.Statuses.{status_number}
-use Rattle.named_files.specs.Outcome.{Outcome, done}
+use Rattle.named_files.specs.Outcome.{Outcome}
 use Rattle.named_files.specs.Readings.{Reading, AreReadings}
 use Rattle.yse_commands.specs.Ends.{AreToldBy, EndsAs, IsDoneOrMemory, KeepsStore, KeepsTaken, MayWrite}
 use Rattle.yse_commands.specs.Expected.{Expected}
+use Rattle.yse_commands.specs.Told.{TellsTurns, wrote_at}
 use Rattle.yse_commands.specs.Traced.{IsOutputOfFiles}
 use Rattle.yse_commands.specs.Visited.{TellsGates}
 use Rattle.yse_commands.specs.Words.{files_named}
 
 module _ {F O E G : Type 0} (store : files.Ghosts F) (output : sink.Ghosts O) (told : sink.Ghosts E) (p : gate.Ghosts G) (files_old files_new : F) (out_old out_new : O) (err_old err_new : E) (gates gates' : List (Option G)) where
   -- The exit status is the number of the status that the call of these words ended with, and what the call promises
-  -- holds of that status: each field is the clause of its name, but that `readings`, `outcome`, `read`, `is` and `ends`
-  -- are the clause `expected`, `words_refused` is `words`, and `kept_store` is `store`.
+  -- holds of that status: each field is the clause of its name, but that `readings`, `outcome`, `read`, `is`, `ends` and
+  -- `told_turns` are the clause `expected`, `words_refused` is `words`, and `kept_store` is `store`.
   pub record EndsBy (words : List (List ℕ)) (exit : ℕ) : Type 0 where
     pub status : Status
     pub number : exit ≡ status_number status
@@ -34,7 +35,8 @@ module _ {F O E G : Type 0} (store : files.Ghosts F) (output : sink.Ghosts O) (t
     pub is : Expected words readings outcome
     pub ends : EndsAs status outcome (output.taken out_old) (output.taken out_new) (output.faults out_old) (output.faults out_new)
         (TakesLine (told.taken err_old) (told.taken err_new) (told.faults err_old) (told.faults err_new))
-    pub complete : (others : List Reading) (text : List ℕ) → Expected words others (done text) → AreToldBy (store.names files_old) (store.bytes files_old) others
+    pub told_turns : TellsTurns p gates gates' (wrote_at status) outcome.told
+    pub complete : (others : List Reading) (other : Outcome) → Expected words others other → other.status ≡ Done → AreToldBy (store.names files_old) (store.bytes files_old) others
         → (Rose (store.counts files_old).faults (store.counts files_new).faults → ⊥) → (Rose (output.faults out_old) (output.faults out_new) → ⊥) → IsDoneOrMemory status
     pub visits : TellsGates p (store.bytes files_old) gates gates' status (asked words)
     pub words_refused : status ≢ Memory → (status ≡ Words) ↔ (asked words ≡ None)

@@ -10,10 +10,12 @@ use Rattle.cmd_words.specs.Asked.{asked}
 use Rattle.cmd_words.specs.Forms.{HasForm}
 use Rattle.yse_commands.specs.Words.{files_named}
 
--- two outcomes with the same status, the same output, and the same line unless it names a loop
+-- two outcomes with the same status, the same output, the same turns that the gates are told of, and the same line unless
+-- it names a loop
 pub record AreAlike (one other : Outcome) : Type 0 where
   pub status : one.status ≡ other.status
   pub output : one.output ≡ other.output
+  pub told : one.told ≡ other.told
   pub line : one.status ≢ ends.Loop → one.line ≡ other.line
 
 -- where both lists have a reading of the same file at a place, it is the same reading

@@ -1,9 +1,7 @@
 //! A whole call: its words, its command, and its end.
 
-ghost use Rattle.std.specs.Prelude.{◌≡◌, ◌≤◌, ℕ, List, Some, map, length};
-ghost use Rattle.std.specs.Io.KnownBytes.{append_known};
+ghost use Rattle.std.specs.Prelude.{◌≡◌, ◌≤◌, map, length};
 ghost use Rattle.std.specs.String.{string_bytes};
-ghost use Rattle.cmd_words.specs.Asked.{asked};
 ghost use Rattle.cmd_words.specs.Forms.{IsInRange};
 ghost use Rattle.edge_io.specs.Writing.{TakesLine};
 ghost use Rattle.limits.specs.declared.TheConstants.{MAX_WORKERS};
@@ -11,8 +9,7 @@ ghost use Rattle.machine_run.specs.Visits.{AreInPlace};
 ghost use Rattle.yse_top.specs.code.Came.{CameTo};
 ghost use Rattle.yse_commands.specs.Ends.{MayWrite};
 ghost use Rattle.yse_commands.specs.Expected.{Expected, ExpectedOf};
-ghost use Rattle.yse_commands.specs.Traced.{IsOutputOfFiles};
-ghost use Rattle.yse_commands.specs.Visited.{AllCanTell, TellsGates};
+ghost use Rattle.yse_commands.specs.Visited.{AllCanTell};
 
 use crate::commands::prepare;
 use crate::ending::end;
@@ -39,13 +36,9 @@ pub fn call<R: Threads + Wait + Sync, F: Files, O: Sink, E: Sink, G: Gate + Send
     requires tell { AllCanTell G.Gate.own gates.old }
     ensures same_names { F.names files.new ≡ F.names files.old }
     ensures same_bytes { F.bytes files.new ≡ F.bytes files.old }
-    ensures came { CameTo (F.names files.old) (F.bytes files.old) (F.counts files.old) (F.counts files.new) (Expected (map string_bytes words.now))
+    ensures came { CameTo G.Gate.own gates.old gates.new (F.names files.old) (F.bytes files.old) (F.counts files.old) (F.counts files.new) (Expected (map string_bytes words.now))
         result (O.taken out.old) (O.taken out.new) (O.faults out.old) (O.faults out.new)
         (TakesLine (E.taken err.old) (E.taken err.new) (E.faults err.old) (E.faults err.new)) }
-    ensures trace { result ≡ Status.Done → (output : List ℕ)
-        × (O.taken out.new ≡ append_known (O.taken out.old) output)
-        × IsOutputOfFiles (F.bytes files.old) output (asked (map string_bytes words.now)) }
-    ensures visits { TellsGates G.Gate.own (F.bytes files.old) gates.old gates.new result (asked (map string_bytes words.now)) }
     ensures no_output { (MayWrite result → ⊥) → out.new ≡ out.old }
     ensures no_line { result ≡ Status.Done → err.new ≡ err.old }
     ensures in_place { AreInPlace gates.old gates.new }
@@ -76,13 +69,9 @@ fn obey<R: Threads + Wait + Sync, F: Files, O: Sink, E: Sink, G: Gate + Send>(
     requires tell { AllCanTell G.Gate.own gates.old }
     ensures same_names { F.names files.new ≡ F.names files.old }
     ensures same_bytes { F.bytes files.new ≡ F.bytes files.old }
-    ensures came { CameTo (F.names files.old) (F.bytes files.old) (F.counts files.old) (F.counts files.new) (ExpectedOf command.now)
+    ensures came { CameTo G.Gate.own gates.old gates.new (F.names files.old) (F.bytes files.old) (F.counts files.old) (F.counts files.new) (ExpectedOf command.now)
         result (O.taken out.old) (O.taken out.new) (O.faults out.old) (O.faults out.new)
         (TakesLine (E.taken err.old) (E.taken err.new) (E.faults err.old) (E.faults err.new)) }
-    ensures trace { result ≡ Status.Done → (output : List ℕ)
-        × (O.taken out.new ≡ append_known (O.taken out.old) output)
-        × IsOutputOfFiles (F.bytes files.old) output (Some command.now) }
-    ensures visits { TellsGates G.Gate.own (F.bytes files.old) gates.old gates.new result (Some command.now) }
     ensures no_output { (MayWrite result → ⊥) → out.new ≡ out.old }
     ensures no_line { result ≡ Status.Done → err.new ≡ err.old }
     ensures in_place { AreInPlace gates.old gates.new }

@@ -1,16 +1,16 @@
 //! What a command comes to before anything is written.
 
-ghost use Rattle.std.specs.Prelude.{◌≡◌, ◌≤◌, Some, IfOk, length, true};
+ghost use Rattle.std.specs.Prelude.{◌≡◌, ◌≤◌, IfOk, length};
 ghost use Rattle.cmd_words.specs.Forms.{IsInRange};
 ghost use Rattle.limits.specs.declared.TheConstants.{MAX_WORKERS};
 ghost use Rattle.machine_run.specs.Visits.{AreInPlace};
 ghost use Rattle.yse_commands.specs.Expected.{ExpectedOf};
 ghost use Rattle.yse_commands.specs.Outputs.{CanEnd};
-ghost use Rattle.yse_commands.specs.Refusals.{Follows, MayTake, status_told};
-ghost use Rattle.yse_commands.specs.Visited.{AllCanTell, TellsGates};
-ghost use Rattle.yse_commands.specs.Telling.{HasWorkers, has_limit, order_file};
+ghost use Rattle.yse_commands.specs.Refusals.{MayTake};
+ghost use Rattle.yse_commands.specs.Telling.{Comes};
+ghost use Rattle.yse_commands.specs.Visited.{AllCanTell};
 
-use cmd_words::{Command, RunWords};
+use cmd_words::Command;
 use crew_run::Gate;
 use edge_io::{Files, Sink};
 use refusal_lines::Refusal;
@@ -23,12 +23,13 @@ use yse_commands::exec::exec;
 use yse_commands::fault::fault;
 use yse_commands::help::help;
 use yse_commands::large::large;
+use yse_commands::order::order;
 use yse_commands::output::Output;
 use yse_commands::pack::pack;
 use yse_commands::refer::refer;
 use yse_commands::run::run;
 use yse_commands::show::show;
-use yse_commands::{Pace, Sheet, lay_out};
+use yse_commands::{Sheet, lay_out};
 
 /// The output of a command, and else the refusal. A run has written its output to `out`; else `out` is not called.
 pub fn prepare<'a, R: Threads + Wait + Sync, F: Files, O: Sink, G: Gate + Send>(
@@ -44,17 +45,16 @@ pub fn prepare<'a, R: Threads + Wait + Sync, F: Files, O: Sink, G: Gate + Send>(
     requires tell { AllCanTell G.Gate.own gates.old }
     ensures same_names { F.names files.new ≡ F.names files.old }
     ensures same_bytes { F.bytes files.new ≡ F.bytes files.old }
-    ensures expected { Follows (F.names files.old) (F.bytes files.old) (F.counts files.old) (F.counts files.new)
+    ensures comes { Comes G.Gate.own (F.names files.old) (F.bytes files.old) (F.counts files.old) (F.counts files.new) gates.old gates.new
         result (ExpectedOf command.now) }
     ensures writable { IfOk result CanEnd }
-    ensures visits { TellsGates G.Gate.own (F.bytes files.old) gates.old gates.new (status_told result) (Some command.now) }
     ensures written { MayTake O.taken O.faults out.old out.new result }
     ensures in_place { AreInPlace gates.old gates.new }
 {
     match command {
-        Command::Run(words) => run(rt, alloc, files, words, Pace::Workers, out, gates),
+        Command::Run(words) => run(rt, alloc, files, words, out, gates),
         Command::Refer(words) => refer(alloc, files, words),
-        Command::Order(words) => run(rt, alloc, files, words, pace_of(words), out, gates),
+        Command::Order(words) => order(alloc, files, words),
         Command::Plan(words) => lay_out(alloc, files, words, Sheet::Report),
         Command::Compile(words) => lay_out(alloc, files, words, Sheet::Image),
         Command::Exec { words, image } => {
@@ -70,17 +70,5 @@ pub fn prepare<'a, R: Threads + Wait + Sync, F: Files, O: Sink, G: Gate + Send>(
             workers,
         } => large(rt, alloc, *count, *cycles, *workers, gates),
         Command::Help(topic) => help(alloc, topic),
-    }
-}
-
-/// The order of the named file, and else rounds.
-fn pace_of(words: &RunWords) -> Pace<'_>
-    ensures order { order_file result ≡ words.now.order }
-    ensures limit { has_limit result ≡ true }
-    ensures alone { HasWorkers result → ⊥ }
-{
-    match &words.order {
-        Some(file) => Pace::Order(file.as_bytes()),
-        None => Pace::Rounds,
     }
 }

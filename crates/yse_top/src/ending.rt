@@ -1,11 +1,9 @@
 //! The end of a call whose output is had.
 
 ghost use Rattle.std.specs.Prelude.{◌≡◌, OnErr};
-ghost use Rattle.std.specs.Io.KnownBytes.{append_known};
-ghost use Rattle.yse_commands.specs.code.Endings.{status_after, IsTold};
-ghost use Rattle.yse_commands.specs.Outputs.{ending_in};
+ghost use Rattle.yse_commands.specs.code.Endings.{ending_in, status_after, IsTold};
 ghost use Rattle.yse_commands.specs.Ends.{EndsAs, MayWrite};
-ghost use Rattle.yse_commands.specs.Outputs.{bytes_of, CanEnd, HasTaken, wrote_in};
+ghost use Rattle.yse_commands.specs.Outputs.{CanEnd, HasTaken, wrote_in};
 ghost use Rattle.yse_commands.specs.Refusals.{ended_with};
 ghost use Rattle.edge_io.specs.Writing.{TakesLine};
 
@@ -20,8 +18,6 @@ pub fn end<O: Sink, E: Sink>(out: &mut O, err: &mut E, output: Output) -> Status
     ensures ends { (before : O) → HasTaken O.taken O.faults before out.old output
         → EndsAs result (ended_with output) (O.taken before) (O.taken out.new) (O.faults before) (O.faults out.new)
         (TakesLine (E.taken err.old) (E.taken err.new) (E.faults err.old) (E.faults err.new)) }
-    ensures whole { (before : O) → HasTaken O.taken O.faults before out.old output → result ≡ Status.Done
-        → (status_after (ending_in output) ≡ Status.Done) × (O.taken out.new ≡ append_known (O.taken before) (bytes_of output)) }
     ensures failed { OnErr (wrote_in output) (result ≡ Status.WriteFault) }
     ensures silent { result ≡ Status.Done → err.new ≡ err.old }
     ensures may_write { MayWrite result }

@@ -11,8 +11,9 @@ ghost use Rattle.machine_run.specs.Visits.{AreInPlace};
 ghost use Rattle.yse_commands.specs.Ends.{EndsAs, IsDoneOrMemory, KeepsStore, KeepsTaken, MayWrite, AreToldBy};
 ghost use Rattle.yse_commands.specs.Expected.{Expected};
 ghost use Rattle.refusal_lines.specs.Lines.{memory_line};
-ghost use Rattle.named_files.specs.Outcome.{Outcome, done};
+ghost use Rattle.named_files.specs.Outcome.{Outcome};
 ghost use Rattle.named_files.specs.Readings.{Reading, AreReadings};
+ghost use Rattle.yse_commands.specs.Told.{TellsTurns, wrote_at};
 ghost use Rattle.yse_commands.specs.Traced.{IsOutputOfFiles};
 ghost use Rattle.yse_commands.specs.Visited.{AllCanTell, TellsGates};
 ghost use Rattle.yse_commands.specs.Words.{files_named};
@@ -107,17 +108,18 @@ pub fn yse<R: Threads + Wait + Sync, F: Files, O: Sink, E: Sink, G: Gate + Send>
         × (O.taken out.new ≡ append_known (O.taken out.old) output)
         × IsOutputOfFiles (F.bytes files.old) output (asked (map string_bytes words.now)) }
 
-    // The call comes to an outcome that is expected of the words and of what was read.
+    // The call comes to an outcome that is expected of the words and of what was read, and the gates were told of its turns.
     ensures expected { (readings : List Reading) × (outcome : Outcome)
         × AreReadings (F.names files.old) (F.bytes files.old) (F.counts files.old) (F.counts files.new) readings
         × Expected (map string_bytes words.now) readings outcome
         × EndsAs result outcome (O.taken out.old) (O.taken out.new) (O.faults out.old) (O.faults out.new)
-        (TakesLine (E.taken err.old) (E.taken err.new) (E.faults err.old) (E.faults err.new)) }
+        (TakesLine (E.taken err.old) (E.taken err.new) (E.faults err.old) (E.faults err.new))
+        × TellsTurns G.Gate.own gates.old gates.new (wrote_at result) outcome.told }
 
     // Where an end with status 0 is expected of what the files tell, its output is written, but for a fault
     // or want of memory.
-    ensures complete { (readings : List Reading) (output : List ℕ)
-        → Expected (map string_bytes words.now) readings (done output)
+    ensures complete { (readings : List Reading) (outcome : Outcome)
+        → Expected (map string_bytes words.now) readings outcome → outcome.status ≡ Status.Done
         → AreToldBy (F.names files.old) (F.bytes files.old) readings
         → (Rose (F.counts files.old).faults (F.counts files.new).faults → ⊥)
         → (Rose (O.faults out.old) (O.faults out.new) → ⊥)
@@ -126,7 +128,7 @@ pub fn yse<R: Threads + Wait + Sync, F: Files, O: Sink, E: Sink, G: Gate + Send>
     // After a run, by an image of a file or not, the gate of each worker was told of all turns of each of its ports,
     // after a fault of writing of those of a whole number of blocks, and before a refusal of nothing; a run of lanes
     // tells of the turns of the longest lane, `large` tells the gates of its turns, and the other commands tell no gate
-    // anything.
+    // anything. This follows from `expected`.
     ensures visits { TellsGates G.Gate.own (F.bytes files.old) gates.old gates.new result (asked (map string_bytes words.now)) }
 
     // Words are refused exactly where they are of no form, unless memory ran out.

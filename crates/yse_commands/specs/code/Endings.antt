@@ -1,10 +1,21 @@
 -- How a call ends after its output is written.
 use Rattle.std.specs.Prelude.{◌≡◌, ℕ, List, Option, Some, None}
 use Rattle.yse_commands.specs.declared.output.Ending.{Ending}
+use Rattle.yse_commands.specs.declared.output.Output.{Output}
+use Rattle.yse_commands.specs.declared.output.Output.TheVariants as output
 use Rattle.refusal_lines.specs.declared.status.Status.{Status}
 use Rattle.refusal_lines.specs.declared.status.Status.TheVariants as status
 use Rattle.refusal_lines.specs.Lines.{unfinished_line}
 use Rattle.edge_io.specs.Writing.{TakesLine}
+
+-- where the run of an output ended, if it was not finished
+abbrev pub ending_in : Output → Option Ending
+ending_in (output.Text text) = None
+ending_in (output.Trace trace) = None
+ending_in (output.Unfinished trace ending) = Some ending
+ending_in (output.Written run) = None
+ending_in (output.Lanes run) = None
+ending_in (output.Lines lines) = None
 
 abbrev pub status_after : Option Ending → Status
 status_after None = status.Done

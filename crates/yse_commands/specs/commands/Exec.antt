@@ -4,41 +4,32 @@
 use Rattle.std.specs.Prelude.{◌≡◌, ◌⊎◌, ◌≤◌, ◌∷◌, List, ℕ, length, Some}
 use Rattle.limits.specs.declared.TheConstants.{MAX_TEXT_BYTES}
 use Rattle.net_defs.specs.declared.netlist.Netlist.{Netlist}
-use Rattle.net_defs.specs.declared.stimulus.Stimulus.{Stimulus}
 use Rattle.net_defs.specs.declared.timing.Timing.{Timing}
 use Rattle.image_defs.specs.declared.image.Image.{Image}
 use Rattle.image_file.specs.Files.{image_text}
 use Rattle.image_defs.specs.declared.file.ImageFile.{ImageFile}
 use Rattle.cmd_words.specs.declared.command.RunWords.{RunWords}
-use Rattle.named_files.specs.Checks.{After, HasNoLoop}
 use Rattle.named_files.specs.Outcome.{Outcome, out_of_memory}
 use Rattle.named_files.specs.Readings.{Reading}
+use Rattle.named_files.specs.Checks.{After, HasNoLoop}
 use Rattle.named_files.specs.Files.{AfterImage, AfterNetlist, AfterStimulus}
-use Rattle.yse_commands.specs.commands.Run.{WritesTrace}
+use Rattle.yse_commands.specs.commands.Run.{RunsTo}
 
--- the stimulus, and then this end of the run of an image
-abbrev pub RunsImage : RunWords → (Image → Timing → Netlist → Stimulus → List Reading → Outcome → Type 0) → Netlist → Timing → Image → List Reading → Outcome → Type 0
-RunsImage words End net timing image = AfterStimulus words.stimulus net (End image timing net)
+-- the stimulus, and then the trace of the run of an image
+abbrev pub RunsImage : RunWords → Netlist → Timing → Image → List Reading → Outcome → Type 0
+RunsImage words net timing image = AfterStimulus words.stimulus net (RunsTo (length image.ports) words timing net)
 
 -- the loop, the image, and then its run
-abbrev pub OnImage : RunWords → List ℕ → (Image → Timing → Netlist → Stimulus → List Reading → Outcome → Type 0) → Netlist → Timing → List Reading → Outcome → Type 0
-OnImage words name End net timing =
-    After (HasNoLoop net timing) (λ passed. AfterImage name net timing (RunsImage words End net timing))
+abbrev pub OnImage : RunWords → List ℕ → Netlist → Timing → List Reading → Outcome → Type 0
+OnImage words name net timing = After (HasNoLoop net timing) (λ passed. AfterImage name net timing (RunsImage words net timing))
 
 -- the netlist, and then a run of the image
-abbrev pub ExecutesBy : RunWords → List ℕ → (Image → Timing → Netlist → Stimulus → List Reading → Outcome → Type 0) → List Reading → Outcome → Type 0
-ExecutesBy words name End = AfterNetlist words (OnImage words name End)
-
--- the end of a run of whatever image: the trace, which is that of the netlist
-abbrev pub WritesTraceOf : Image → Timing → Netlist → Stimulus → List Reading → Outcome → Type 0
-WritesTraceOf image timing net stimulus = WritesTrace net timing stimulus
-
 abbrev pub ExpectedExec : RunWords → List ℕ → List Reading → Outcome → Type 0
-ExpectedExec words name = ExecutesBy words name WritesTraceOf
+ExpectedExec words name = AfterNetlist words (OnImage words name)
 
 -- where the text of the image is what is read, and isn't too long, the image is run, but for want of memory
 abbrev pub IsTaken : Netlist → Timing → ImageFile → Type 0
 IsTaken net timing file =
     (words : RunWords) (name : List ℕ) (readings : List Reading) (outcome : Outcome) → length (image_text file) ≤ MAX_TEXT_BYTES
-    → AfterImage name net timing (RunsImage words WritesTraceOf net timing) (record { file = name; bytes = Some (image_text file) } ∷ readings) outcome
-    → RunsImage words WritesTraceOf net timing file.image readings outcome ⊎ (outcome ≡ out_of_memory)
+    → AfterImage name net timing (RunsImage words net timing) (record { file = name; bytes = Some (image_text file) } ∷ readings) outcome
+    → RunsImage words net timing file.image readings outcome ⊎ (outcome ≡ out_of_memory)

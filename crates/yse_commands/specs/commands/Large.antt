@@ -1,10 +1,13 @@
 -- `large`: the summary of a run of a generated design. It always fits its machine, so nothing is refused.
-use Rattle.std.specs.Prelude.{List, ℕ}
+use Rattle.std.specs.Prelude.{◌≡◌, ◌⊎◌, List, ℕ, Some}
 use Rattle.large_run.specs.Runs.{IsSummaryOf}
-use Rattle.named_files.specs.Checks.{Ends, Writes}
-use Rattle.named_files.specs.Outcome.{Outcome}
+use Rattle.named_files.specs.Checks.{Ends, WritesTold}
+use Rattle.named_files.specs.Outcome.{Outcome, out_of_memory, telling}
 use Rattle.named_files.specs.Readings.{Reading}
+use Rattle.yse_commands.specs.Told.{large_turns}
 
--- the summary, without a file
-abbrev pub ExpectedLarge : ℕ → ℕ → List Reading → Outcome → Type 0
-ExpectedLarge gates cycles = Ends (Writes (IsSummaryOf gates cycles))
+-- the summary, without a file; memory for it may be wanting after the run
+abbrev pub ExpectedLarge : ℕ → ℕ → ℕ → List Reading → Outcome → Type 0
+ExpectedLarge gates cycles workers =
+    Ends (λ outcome. WritesTold (Some (large_turns cycles workers)) (IsSummaryOf gates cycles) outcome
+    ⊎ (outcome ≡ telling (Some (large_turns cycles workers)) out_of_memory))

@@ -1,58 +1,59 @@
 -- `run`, `refer` and `order`: the trace of the reference simulation. A run and an order are runs of a
 -- compiled machine, and a design that does not fit the machine is refused. `refer` and `order` keep the cells of
 -- all cycles, and have a limit on them; a run has none.
-use Rattle.std.specs.Prelude.{Bool, true, false, List, ℕ, Option, Some, None}
-use Rattle.machine_text.specs.declared.machine.Machine.{Machine}
+use Rattle.std.specs.Prelude.{List, ℕ, Option, Some, None}
+use Rattle.machine_text.specs.Machines.{ports_of}
 use Rattle.net_defs.specs.declared.netlist.Netlist.{Netlist}
 use Rattle.net_defs.specs.declared.stimulus.Stimulus.{Stimulus}
 use Rattle.net_defs.specs.declared.timing.Timing.{Timing}
 use Rattle.net_defs.specs.Trace.{IsTrace}
 use Rattle.cmd_words.specs.declared.command.RunWords.{RunWords}
-use Rattle.named_files.specs.Checks.{After, AfterFile, Ends, Writes, HasNoLoop, HasFewCells, IsOrderOf}
+use Rattle.named_files.specs.Checks.{After, Ends, Writes, WritesTold, HasNoLoop, HasFewCells}
+use Rattle.named_files.specs.Designs.{Placed, Prepared}
 use Rattle.yse_commands.specs.Orders.{EndsInOrder}
 use Rattle.named_files.specs.Outcome.{Outcome}
 use Rattle.named_files.specs.Readings.{Reading}
-use Rattle.named_files.specs.Files.{AfterFit, AfterMachine, AfterNetlist, AfterStimulus}
+use Rattle.named_files.specs.Files.{AfterNetlist, AfterStimulus}
+use Rattle.named_files.specs.Passing.{AfterOrderFile, AfterReady, Continuation}
+use Rattle.stim_text.specs.declared.order.Order.{Order}
+use Rattle.yse_commands.specs.Told.{run_turns}
 
--- the cells, where they are limited
-abbrev pub AfterCells : Bool → Netlist → Stimulus → (List Reading → Outcome → Type 0) → List Reading → Outcome → Type 0
-AfterCells false net stimulus Next = Next
-AfterCells true net stimulus Next = After (HasFewCells net stimulus) (λ few. Next)
+-- the trace of a run of so many ports is written, and the gates are told of its turns
+abbrev pub RunsTo : ℕ → RunWords → Timing → Netlist → Stimulus → List Reading → Outcome → Type 0
+RunsTo ports words timing net stimulus = Ends (WritesTold (Some (run_turns ports words timing net stimulus)) (IsTrace net timing stimulus))
+
+abbrev pub RunsOn : RunWords → Continuation Prepared
+RunsOn words ready = RunsTo (ports_of ready.placed.machine) words ready.placed.timing ready.placed.net ready.stimulus
+
+-- the design on its machine, the stimulus, and then the run
+abbrev pub ExpectedRun : RunWords → List Reading → Outcome → Type 0
+ExpectedRun words = AfterReady words (RunsOn words)
 
 -- the trace is written
 abbrev pub WritesTrace : Netlist → Timing → Stimulus → List Reading → Outcome → Type 0
 WritesTrace net timing stimulus = Ends (Writes (IsTrace net timing stimulus))
 
--- the cells, which are kept, and then the trace
-abbrev pub KeepsTrace : Netlist → Timing → Stimulus → List Reading → Outcome → Type 0
-KeepsTrace net timing stimulus = AfterCells true net stimulus (WritesTrace net timing stimulus)
+-- what is done by the end of an order
+abbrev pub EndsAfter : RunWords → Placed → Stimulus → Continuation Order
+EndsAfter words design stimulus order = Ends (EndsInOrder order words.banks words.homes design.net design.machine design.timing stimulus)
 
 -- without an order file the trace is written; in the order of the named file, once its text is read, what
 -- is done by its end
-unfoldable pub EndsBy : Option (List ℕ) → RunWords → Machine → Timing → Netlist → Stimulus → List Reading → Outcome → Type 0
-EndsBy None words machine timing net stimulus = WritesTrace net timing stimulus
-EndsBy (Some file) words machine timing net stimulus =
-    AfterFile file (λ text.
-    After (IsOrderOf text machine) (λ order.
-    Ends (EndsInOrder order words.banks words.homes net machine timing stimulus)))
+unfoldable pub EndsBy : Option (List ℕ) → RunWords → Placed → Stimulus → List Reading → Outcome → Type 0
+EndsBy None words design stimulus = WritesTrace design.net design.timing stimulus
+EndsBy (Some file) words design stimulus = AfterOrderFile file design.machine (EndsAfter words design stimulus)
 
--- the cells where they are limited, and then this end
-abbrev pub EndsWithin : Bool → Option (List ℕ) → RunWords → Machine → Timing → Netlist → Stimulus → List Reading → Outcome → Type 0
-EndsWithin limited order words machine timing net stimulus =
-    AfterCells limited net stimulus (EndsBy order words machine timing net stimulus)
+-- the cells, which are kept, and then this end
+abbrev pub OrdersOn : RunWords → Continuation Prepared
+OrdersOn words ready = After (HasFewCells ready.placed.net ready.stimulus) (λ few. EndsBy words.order words ready.placed ready.stimulus)
 
--- the design on the machine, the stimulus, and then this end of the run
-abbrev pub OnTiming : RunWords → (Machine → Timing → Netlist → Stimulus → List Reading → Outcome → Type 0) → Machine → Netlist → Timing → List Reading → Outcome → Type 0
-OnTiming words End machine net timing =
-    AfterFit words.homes net machine timing (AfterStimulus words.stimulus net (End machine timing net))
+-- the design on its machine, the stimulus, and then a run in the order of the named file, or to its end
+abbrev pub ExpectedOrder : RunWords → List Reading → Outcome → Type 0
+ExpectedOrder words = AfterReady words (OrdersOn words)
 
--- the netlist, and then a run on the machine
-abbrev pub ExpectedOn : RunWords → (Machine → Timing → Netlist → Stimulus → List Reading → Outcome → Type 0) → Machine → List Reading → Outcome → Type 0
-ExpectedOn words End machine = AfterNetlist words (OnTiming words End machine)
-
--- the machine, and then a run on it, to its end or in the order of the named file
-abbrev pub ExpectedRun : RunWords → Bool → Option (List ℕ) → List Reading → Outcome → Type 0
-ExpectedRun words limited order = AfterMachine words.machine (ExpectedOn words (EndsWithin limited order words))
+-- the cells, which are kept, and then the trace
+abbrev pub KeepsTrace : Netlist → Timing → Stimulus → List Reading → Outcome → Type 0
+KeepsTrace net timing stimulus = After (HasFewCells net stimulus) (λ few. WritesTrace net timing stimulus)
 
 -- the loop, the stimulus, the cells, and then the trace
 abbrev pub AfterLoop : List ℕ → Netlist → Timing → List Reading → Outcome → Type 0

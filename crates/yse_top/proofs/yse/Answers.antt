@@ -2,24 +2,30 @@
 use Rattle.std.proofs.Common.{map}
 use Rattle.std.specs.String.{string_bytes}
 use Rattle.yse_top.proofs.CallLemmas.{few_begun}
-use Rattle.yse_top.proofs.CameLemmas.{absent_came, completes_came, fault_came, line_kept, output_kept, words_came, write_came}
+use Rattle.yse_top.proofs.CameLemmas.{absent_came, completes_came, fault_came, line_kept, output_kept, trace_came, visits_came, words_came, write_came}
 use Rattle.yse_top.proofs.yse.Goals as goal
 
 pub returns-clause-expected : goal.returns-clause-expected
-returns-clause-expected g c = let came = c.call.ensures.came in (came.readings, came.outcome, came.are, came.expected, came.ends)
+returns-clause-expected g c = let came = c.call.ensures.came in (came.readings, came.outcome, came.are, came.expected, came.ends, came.told)
+
+pub returns-clause-trace : goal.returns-clause-trace
+returns-clause-trace g c is = trace_came _ _ _ _ _ _ _ (map string_bytes c.args.words.now) _ _ _ _ _ _ c.calls_are_proper.ensures.words c.call.ensures.came is
+
+pub returns-clause-visits : goal.returns-clause-visits
+returns-clause-visits g c = visits_came g.G.Gate _ _ _ _ _ _ (map string_bytes c.args.words.now) _ _ _ _ _ _ c.calls_are_proper.ensures.words c.call.ensures.came
 
 pub returns-clause-complete : goal.returns-clause-complete
-returns-clause-complete g c readings output expected told kept written =
-    completes_came _ _ _ _ (map string_bytes c.args.words.now) _ _ _ _ _ _ _ (c.calls_are_proper.ensures.proper (map string_bytes c.args.words.now)) c.call.ensures.came readings output expected told kept written
+returns-clause-complete g c readings outcome expected well told kept written =
+    completes_came _ _ _ _ _ _ _ (map string_bytes c.args.words.now) _ _ _ _ _ _ _ (c.calls_are_proper.ensures.proper (map string_bytes c.args.words.now)) c.call.ensures.came readings outcome expected well told kept written
 
 pub returns-clause-words : goal.returns-clause-words
-returns-clause-words g c = words_came _ _ _ _ (map string_bytes c.args.words.now) _ _ _ _ _ _ c.calls_are_proper.ensures.words c.call.ensures.came
+returns-clause-words g c = words_came _ _ _ _ _ _ _ (map string_bytes c.args.words.now) _ _ _ _ _ _ c.calls_are_proper.ensures.words c.call.ensures.came
 
 pub returns-clause-read_fault : goal.returns-clause-read_fault
-returns-clause-read_fault g c is = fault_came _ _ _ _ (map string_bytes c.args.words.now) _ _ _ _ _ _ _ (c.calls_are_proper.ensures.proper (map string_bytes c.args.words.now)) c.call.ensures.came is
+returns-clause-read_fault g c is = fault_came _ _ _ _ _ _ _ (map string_bytes c.args.words.now) _ _ _ _ _ _ _ (c.calls_are_proper.ensures.proper (map string_bytes c.args.words.now)) c.call.ensures.came is
 
 pub returns-clause-write_fault : goal.returns-clause-write_fault
-returns-clause-write_fault g c is = write_came _ _ _ _ (map string_bytes c.args.words.now) _ _ _ _ _ _ _ (c.calls_are_proper.ensures.proper (map string_bytes c.args.words.now)) c.call.ensures.came is
+returns-clause-write_fault g c is = write_came _ _ _ _ _ _ _ (map string_bytes c.args.words.now) _ _ _ _ _ _ _ (c.calls_are_proper.ensures.proper (map string_bytes c.args.words.now)) c.call.ensures.came is
 
 pub returns-clause-begun : goal.returns-clause-begun
 returns-clause-begun g c =
@@ -27,7 +33,7 @@ returns-clause-begun g c =
     few_begun _ _ _ _ _ _ came.readings came.outcome (c.calls_are_proper.ensures.proper (map string_bytes c.args.words.now)) came.are came.expected
 
 pub returns-clause-absent : goal.returns-clause-absent
-returns-clause-absent g c other = absent_came _ _ _ _ (map string_bytes c.args.words.now) _ _ _ _ _ _ _ (c.calls_are_proper.ensures.proper (map string_bytes c.args.words.now)) c.call.ensures.came other
+returns-clause-absent g c other = absent_came _ _ _ _ _ _ _ (map string_bytes c.args.words.now) _ _ _ _ _ _ _ (c.calls_are_proper.ensures.proper (map string_bytes c.args.words.now)) c.call.ensures.came other
 
 pub returns-clause-store : goal.returns-clause-store
 returns-clause-store g c = record { same_names = c.call.ensures.same_names; same_bytes = c.call.ensures.same_bytes }

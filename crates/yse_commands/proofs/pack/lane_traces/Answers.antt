@@ -1,5 +1,5 @@
 -- What the run writes are the traces of all lanes, and its visits are those of the machine's ports.
-use Rattle.std.proofs.Common.{subst, length, ◌*◌, arith}
+use Rattle.std.proofs.Common.{refl, subst, length, ◌*◌, arith}
 use Rattle.machine_run.specs.Visits.{AreVisitsOf}
 use Rattle.stim_text.specs.Lanes.{longest}
 use Rattle.yse_commands.proofs.GateLemmas.{machine_ports}
@@ -18,6 +18,12 @@ pub returns-in-Ok-clause-visits : goal.returns-in-Ok-clause-visits
 returns-in-Ok-clause-visits g c =
     let design = c.design.inside in
     let run = design.run in
-    rw (← c.design.view_is) (subst (λ n. AreVisitsOf g.G.Gate n (run.timing.units * longest c.args.lanes) c.args.words.now.workers c.args.gates.now c.run_pack-wrote.new.gates)
-    (machine_ports design.homes run.net design.machine run.timing run.image c.design.invariant.made)
-    (subst (λ u. AreVisitsOf g.G.Gate (length run.image.ports) (u * longest c.args.lanes) c.args.words.now.workers c.args.gates.now c.run_pack-wrote.new.gates) c.design.invariant.runnable.image.units c.in-Ok.ensures.visits))
+    let lanes = c.args.lanes in
+    let workers = c.args.words.now.workers in
+    rw (← c.design.view_is) (
+      longest lanes,
+      refl,
+      subst (λ n. AreVisitsOf g.G.Gate n (run.timing.units * longest lanes) workers c.args.gates.now c.run_pack-wrote.new.gates)
+          (machine_ports design.homes run.net design.machine run.timing run.image c.design.invariant.made)
+          (subst (λ u. AreVisitsOf g.G.Gate (length run.image.ports) (u * longest lanes) workers c.args.gates.now c.run_pack-wrote.new.gates) c.design.invariant.runnable.image.units c.in-Ok.ensures.visits),
+    )

@@ -1,5 +1,5 @@
 -- What the run writes is the trace, and its visits are those of the netlist's turns.
-use Rattle.yse_commands.proofs.GateLemmas.{image_visits}
+use Rattle.yse_commands.proofs.GateLemmas.{image_turns}
 use Rattle.yse_commands.proofs.ShownLemmas.{run_trace}
 use Rattle.yse_commands.proofs.steps.by_workers.Goals as goal
 
@@ -8,5 +8,4 @@ returns-in-Ok-clause-printed g c = run_trace c.args.run.net c.args.run.timing c.
 
 pub returns-in-Ok-clause-visits : goal.returns-in-Ok-clause-visits
 returns-in-Ok-clause-visits g c =
-    image_visits g.G.Gate c.args.run.net c.args.run.timing c.args.stimulus c.args.run.image c.requires.run.image
-    c.args.words.now.workers c.args.gates.now _ _ c.in-Ok.ensures.visits
+    image_turns g.G.Gate c.args.words.now c.args.run.net c.args.run.timing c.args.stimulus c.args.run.image c.requires.run.image c.args.gates.now _ _ c.in-Ok.ensures.visits

@@ -1,5 +1,5 @@
 -- What the command came to, or why there is none.
-use Rattle.std.proofs.Common.{◌≡◌, ◌∙◌, sym, refl, subst, map, inl, inr}
+use Rattle.std.proofs.Common.{◌≡◌, ◌∙◌, sym, refl, map, inl, inr, None}
 use Rattle.std.specs.String.{string_bytes}
 use Rattle.cmd_words.specs.declared.command.Command.{Command}
 use Rattle.cmd_words.specs.Forms.{HasForm}
@@ -7,8 +7,6 @@ use Rattle.cmd_words.specs.declared.command.WordNo.TheVariants.{Usage, Memory}
 use Rattle.refusal_lines.specs.declared.refusal.Refusal.TheVariants as refusal
 use Rattle.yse_commands.specs.Expected.{Expected}
 use Rattle.named_files.specs.Refused.{refused_of}
-use Rattle.yse_commands.specs.Traced.{IsOutputOfFiles}
-use Rattle.yse_commands.specs.Visited.{TellsGates}
 use Rattle.yse_top.proofs.CallLemmas.{follows_usage, follows_no_memory, refused_ends}
 use Rattle.yse_top.proofs.call.call.Goals as goal
 
@@ -24,16 +22,8 @@ returns-in-Ok-clause-came g c =
       are = came.are;
       expected = inl (c.in-Ok.command, c.in-Ok.ensures.form, came.expected);
       ends = came.ends;
+      told = came.told;
     }
-
-pub returns-in-Ok-clause-trace : goal.returns-in-Ok-clause-trace
-returns-in-Ok-clause-trace g c is =
-    let trace = c.obey-status.ensures.trace is in
-    (trace.0, trace.1, subst (IsOutputOfFiles (g.F.Files.bytes c.args.files.now) trace.0) (sym c.in-Ok.ensures.asked) trace.2)
-
-pub returns-in-Ok-clause-visits : goal.returns-in-Ok-clause-visits
-returns-in-Ok-clause-visits g c =
-    subst (TellsGates g.G.Gate (g.F.Files.bytes c.args.files.now) c.args.gates.now c.obey-status.new.gates c.obey-status.result) (sym c.in-Ok.ensures.asked) c.obey-status.ensures.visits
 
 -- ---- words of no form
 
@@ -46,7 +36,8 @@ returns-in-Err-Usage-clause-came g c =
       outcome = refused_of refusal.Words;
       are = follows.are;
       expected = follows.expected;
-      ends = refused_ends refusal.Words c.refuse.result _ _ _ _ _ c.refuse.ensures.status refl refl c.refuse.ensures.line;
+      ends = refused_ends None refusal.Words c.refuse.result _ _ _ _ _ c.refuse.ensures.status refl refl c.refuse.ensures.line;
+      told = refl;
     }
   where
     usage_not_memory : Usage ≡ Memory → ⊥
@@ -60,5 +51,6 @@ returns-in-Err-Memory-clause-came g c =
       outcome = refused_of refusal.Memory;
       are = follows.are;
       expected = follows.expected;
-      ends = refused_ends refusal.Memory c.refuse-in-Err-Memory.result _ _ _ _ _ c.refuse-in-Err-Memory.ensures.status refl refl c.refuse-in-Err-Memory.ensures.line;
+      ends = refused_ends None refusal.Memory c.refuse-in-Err-Memory.result _ _ _ _ _ c.refuse-in-Err-Memory.ensures.status refl refl c.refuse-in-Err-Memory.ensures.line;
+      told = refl;
     }

@@ -1,5 +1,5 @@
 -- What was written of the output, and the line that was told.
-use Rattle.std.proofs.Common.{◌∙◌, ap, inl, inr, subst, sym}
+use Rattle.std.proofs.Common.{◌∙◌, ap, inl, inr, subst}
 use Rattle.std.specs.Io.KnownBytes.{append_known}
 use Rattle.edge_io.specs.Writing.{TakesProperPrefix}
 use Rattle.yse_commands.specs.code.Endings.{status_after}
@@ -20,10 +20,6 @@ returns-in-Ok-clause-ends g c = λ before has.
       writes = λ is. output_whole output;
       kept = wrote.kept;
     }
-
-pub returns-in-Ok-clause-whole : goal.returns-in-Ok-clause-whole
-returns-in-Ok-clause-whole g c = λ before has is.
-    (ap status_after (sym c.ending_of-ending.ensures) ∙ sym c.tell_ending.ensures.status ∙ is, (c.in-Ok.ensures.written before has).whole)
 
 pub returns-in-Err-clause-ends : goal.returns-in-Err-clause-ends
 returns-in-Err-clause-ends g c = λ before has.

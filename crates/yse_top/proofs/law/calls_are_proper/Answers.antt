@@ -1,5 +1,5 @@
 -- The chain of each command, link by link.
-use Rattle.std.proofs.Common.{◌≡◌, ◌∙◌, ◌↔◌, ◌⊎◌, inl, inr, ◌≢◌, ◌<◌, ◌≤◌, sym, ap, refl, subst, ℕ, Bool, true, false, List, [], ◌∷◌, ◌++◌, length, Option, Some, None, Ok, Err}
+use Rattle.std.proofs.Common.{◌≡◌, ◌∙◌, ◌↔◌, ◌⊎◌, inl, inr, ◌≢◌, ◌<◌, ◌≤◌, sym, ap, refl, subst, ℕ, List, [], ◌∷◌, ◌++◌, length, Option, Some, None, Ok, Err}
 use Rattle.std.specs.List.{All}
 use Rattle.std.specs.Option.{option_to_list}
 use Rattle.std.proofs.lemmas.List.{append-nil}
@@ -53,40 +53,43 @@ use Rattle.cover_sim.specs.Lines.{cover_lines}
 use Rattle.cover_sim.specs.Marks.{HasOneCoverage, HaveOneCoverage}
 use Rattle.fault_sim.specs.Lines.{fault_lines}
 use Rattle.fault_sim.specs.Verdicts.{AreAllFaults, HasOneList, HaveOneList}
-use Rattle.named_files.specs.Checks.{After, Ends, Writes, IsFaultListOf, IsLanesOf, HasFewBits, HasFewLaneCells, HasFewSignals, cell_count, lane_cell_count, memory_bits, IsMachineOf, IsNetlistOf, HasNoLoop, HasRoom, IsStimulusOf, HasFewCells, IsListOf, IsOrderOf, listing}
+use Rattle.named_files.specs.Checks.{After, Ends, Writes, WritesTold, IsFaultListOf, IsLanesOf, HasFewBits, HasFewLaneCells, HasFewSignals, cell_count, lane_cell_count, memory_bits, IsMachineOf, IsNetlistOf, HasNoLoop, HasRoom, IsStimulusOf, HasFewCells, IsListOf, IsOrderOf, listing}
 use Rattle.cmd_words.specs.Forms.{HasForm, IsInRange}
 use Rattle.refusal_lines.specs.declared.status.Status.{Status}
 use Rattle.yse_commands.specs.Expected.{Expected, ExpectedOf, Asks}
 use Rattle.yse_top.specs.Law.{IsProper, HasOutcome}
 use Rattle.refusal_lines.specs.Lines.{usage_line, machine_line, netlist_line, stimulus_line, cells_line, bits_limit_line, signals_line, lanes_line, order_line, list_line, faults_line, image_line}
-use Rattle.named_files.specs.Outcome.{Outcome, refusal}
+use Rattle.named_files.specs.Outcome.{Outcome, Turns, done, out_of_memory, refusal, telling}
+use Rattle.named_files.specs.Designs.{Placed, Prepared}
+use Rattle.named_files.specs.Passing.{AfterPlaced, AfterPlacedOn, AfterReady, Continuation, placed}
 use Rattle.named_files.specs.Readings.{Reading}
+use Rattle.yse_commands.specs.Told.{lanes_turns, large_turns, run_turns}
 use Rattle.yse_commands.specs.Orders.{EndsInOrder}
 use Rattle.cmd_words.specs.declared.topic.Topic.{Topic}
 use Rattle.help_text.specs.Texts.{text_of}
 use Rattle.yse_commands.specs.Words.{files_of, files_named}
 use Rattle.yse_commands.specs.commands.Cover.{CoversIn, ExpectedCover, IsCoverage, WritesCoverage}
-use Rattle.yse_commands.specs.commands.Exec.{ExpectedExec, OnImage, RunsImage, WritesTraceOf}
+use Rattle.yse_commands.specs.commands.Exec.{ExpectedExec, OnImage, RunsImage}
 use Rattle.named_files.specs.Images.{IsAccepted, IsImageFileOf}
 use Rattle.yse_commands.specs.commands.Fault.{AfterListed, ExpectedFault, FaultsIn, IsFaultList, ListsFaults, listed_or_all}
 use Rattle.yse_commands.specs.commands.Help.{ExpectedHelp}
 use Rattle.yse_commands.specs.commands.Large.{ExpectedLarge}
 use Rattle.named_files.specs.Files.{AfterFaultList, AfterFit, AfterImage, AfterLanes, AfterList, AfterMachine, AfterMatch, AfterNetlist, AfterStimulus}
-use Rattle.yse_commands.specs.commands.Pack.{AreLaneTraces, ExpectedPack, KeepsLanes, KeepsLanesOn, PacksIn, PacksOn}
+use Rattle.yse_commands.specs.commands.Pack.{AreLaneTraces, ExpectedPack, KeepsLanes, Packs}
 use Rattle.yse_commands.specs.commands.Compile.{IsImageTextOf}
-use Rattle.yse_commands.specs.commands.Layout.{ExpectedLayout, ExpectedLayoutOn, IsSheetOf, LaysOut}
+use Rattle.yse_commands.specs.commands.Layout.{ExpectedLayout, IsSheetOf}
 use Rattle.yse_commands.specs.commands.Plan.{IsReportOf}
 use Rattle.yse_commands.specs.declared.layout.Sheet.{Sheet}
 use Rattle.yse_commands.specs.declared.layout.Sheet.TheVariants as sheet
-use Rattle.yse_commands.specs.commands.Run.{AfterCells, AfterLoop, WritesTrace, EndsBy, EndsWithin, ExpectedRun, ExpectedOn, ExpectedRefer, KeepsTrace, OnTiming}
+use Rattle.yse_commands.specs.commands.Run.{AfterLoop, EndsAfter, EndsBy, ExpectedOrder, ExpectedRefer, ExpectedRun, KeepsTrace, OrdersOn, RunsOn, RunsTo, WritesTrace}
 use Rattle.yse_commands.specs.commands.Show.{ExpectedShow}
 use Rattle.yse_top.proofs.AcceptedLemmas.{accepted_check, interchangeable}
 use Rattle.yse_top.proofs.CommandLemmas.{IsCommand, command_after, command_file, command_ends, not_words}
 use Rattle.yse_top.proofs.TraceLemmas.{traces_only, traces_some}
 use Rattle.yse_top.proofs.OrderLemmas.{DecidesOrder, done_alike, order_ending, order_outcome}
 use Rattle.yse_top.proofs.TextLemmas.{HasOneImage, one_text, some_text}
-use Rattle.yse_top.proofs.OutcomeLemmas.{outcome_after, outcome_writes}
-use Rattle.yse_top.proofs.ProperLemmas.{IsCheck, IsAnswered, alike, memory_status, proper_after, writes_ending}
+use Rattle.yse_top.proofs.OutcomeLemmas.{outcome_after, outcome_ends, outcome_writes}
+use Rattle.yse_top.proofs.ProperLemmas.{IsCheck, IsAnswered, alike, full_ending, memory_status, proper_after, writes_ending}
 use Rattle.yse_top.proofs.ChoiceLemmas.{HasHomes, has_homes}
 use Rattle.yse_top.proofs.ReportLemmas.{AreOnce, one_report, some_report}
 use Rattle.yse_top.proofs.CheckLemmas.{default_is_valid, reads_check, loop_check, IsRoomLaw, room_check, size_check, trace_only, trace_some}
@@ -127,6 +130,14 @@ record Laws : Type 0 where
   order_or_loop : (net : Netlist) (timing : Timing) → OrderOrLoop net timing
   never_both : (net : Netlist) (timing : Timing) (order circle : List ℕ) → IsOrder net timing order → IsCircle net timing circle → ⊥
   one_simulation : (net : Netlist) (timing : Timing) (stimulus : Stimulus) → ((circle : List ℕ) → IsCircle net timing circle → ⊥) → HasOneSimulation net timing stimulus
+
+-- a design that fits its machine
+record IsRight (words : RunWords) (design : Placed) : Type 0 where
+  valid : IsValid design.net
+  machine_valid : IsValidMachine design.machine
+  timely : IsValidTiming design.timing
+  acyclic : IsAcyclic design.net design.timing
+  fits : FitsBy words.homes design.net design.machine design.timing
 
 words_status : (o : Outcome) → o ≡ refusal status.Words usage_line → o.status ≡ status.Words
 words_status o is = ap (λ (o : Outcome). o.status) is
@@ -171,12 +182,12 @@ module _ (laws : Laws) where
   image_check : (text : List ℕ) → IsCheck (IsImageFileOf text)
   image_check text = reads_check image_file.Reads image_faults.first_fault laws.images text status.ImageText image_line tt
 
-  trace_proper : (net : Netlist) (timing : Timing) (stimulus : Stimulus) → IsAcyclic net timing → IsCommand [] (WritesTrace net timing stimulus)
-  trace_proper net timing stimulus acyclic =
+  trace_proper : (told : Option Turns) (net : Netlist) (timing : Timing) (stimulus : Stimulus) → IsAcyclic net timing → IsCommand [] (Ends (WritesTold told (IsTrace net timing stimulus)))
+  trace_proper told net timing stimulus acyclic =
       let simulation = laws.one_simulation net timing stimulus acyclic in
       let trace = trace_some net timing stimulus simulation in
-      command_ends (Writes (IsTrace net timing stimulus)) (writes_ending (IsTrace net timing stimulus) (λ s t is is_too. (trace_only net timing stimulus simulation s t is is_too)))
-      (outcome_writes (IsTrace net timing stimulus) trace.0 trace.1)
+      command_ends (WritesTold told (IsTrace net timing stimulus)) (writes_ending told (IsTrace net timing stimulus) (λ s t is is_too. (trace_only net timing stimulus simulation s t is is_too)))
+      (outcome_writes told (IsTrace net timing stimulus) trace.0 trace.1)
 
   stimulus_proper : (file : List ℕ) (files : List (List ℕ)) (net : Netlist) (Next : Stimulus → List Reading → Outcome → Type 0) → ((stimulus : Stimulus) → IsCommand files (Next stimulus)) → IsCommand (file ∷ files) (AfterStimulus file net Next)
   unfolding AfterStimulus
@@ -184,9 +195,8 @@ module _ (laws : Laws) where
       command_file file files (λ text. After (IsStimulusOf text net) Next) (λ text short.
       command_after files (IsStimulusOf text net) Next (stimulus_check text net) (λ stimulus is. on stimulus))
 
-  cells_proper : (limited : Bool) (files : List (List ℕ)) (net : Netlist) (stimulus : Stimulus) (Next : List Reading → Outcome → Type 0) → IsCommand files Next → IsCommand files (AfterCells limited net stimulus Next)
-  cells_proper false files net stimulus Next on = on
-  cells_proper true files net stimulus Next on =
+  cells_proper : (files : List (List ℕ)) (net : Netlist) (stimulus : Stimulus) (Next : List Reading → Outcome → Type 0) → IsCommand files Next → IsCommand files (After (HasFewCells net stimulus) (λ few. Next))
+  cells_proper files net stimulus Next on =
       command_after files (HasFewCells net stimulus) (λ few. Next) (size_check MAX_CELLS (cell_count net stimulus) cells_line) (λ few cells. on)
 
   machine_proper : (file : Option (List ℕ)) (files : List (List ℕ)) (Next : Machine → List Reading → Outcome → Type 0) → ((machine : Machine) → IsValidMachine machine → IsCommand files (Next machine)) → IsCommand (option_to_list file ++ files) (AfterMachine file Next)
@@ -206,7 +216,7 @@ module _ (laws : Laws) where
   loop_proper : (file : List ℕ) (net : Netlist) (timing : Timing) → IsCommand (file ∷ []) (AfterLoop file net timing)
   loop_proper file net timing =
       command_after (file ∷ []) (HasNoLoop net timing) (λ passed. AfterStimulus file net (KeepsTrace net timing)) (loop_check net timing (laws.order_or_loop net timing) (laws.never_both net timing)) (λ passed acyclic.
-      stimulus_proper file [] net (KeepsTrace net timing) (λ stimulus. cells_proper true [] net stimulus (WritesTrace net timing stimulus) (trace_proper net timing stimulus acyclic)))
+      stimulus_proper file [] net (KeepsTrace net timing) (λ stimulus. cells_proper [] net stimulus (WritesTrace net timing stimulus) (trace_proper None net timing stimulus acyclic)))
 
   fit_proper : (choice : HomeChoice) (files : List (List ℕ)) (net : Netlist) (machine : Machine) → IsValid net → IsValidMachine machine → (timing : Timing) (Next : List Reading → Outcome → Type 0)
       → (IsAcyclic net timing → FitsBy choice net machine timing → IsCommand files Next) → IsCommand files (AfterFit choice net machine timing Next)
@@ -227,33 +237,48 @@ module _ (laws : Laws) where
   refer_proper : (words : RunWords) → IsValidTiming words.timing → IsCommand (words.netlist ∷ (option_to_list words.last ++ (words.stimulus ∷ []))) (ExpectedRefer words)
   refer_proper words timely = netlist_proper words (words.stimulus ∷ []) (AfterLoop words.stimulus) timely (λ net valid timing valid_timing. loop_proper words.stimulus net timing)
 
-  lanes_proper : (net : Netlist) (timing : Timing) (lanes : Lanes) → IsAcyclic net timing → IsCommand [] (KeepsLanes net timing lanes)
-  lanes_proper net timing lanes acyclic =
+  -- a design on the machine of the files
+  placed_proper : (words : RunWords) (files : List (List ℕ)) (Next : Continuation Placed) → IsValidTiming words.timing → ((design : Placed) → IsRight words design → IsCommand files (Next design))
+      → IsCommand (option_to_list words.machine ++ (words.netlist ∷ (option_to_list words.last ++ files))) (AfterPlaced words Next)
+  placed_proper words files Next timely on =
+      machine_proper words.machine (words.netlist ∷ (option_to_list words.last ++ files)) (λ machine. AfterPlacedOn words machine Next) (λ machine machine_valid.
+      netlist_proper words files (λ net timing. AfterFit words.homes net machine timing (Next (placed words machine net timing))) timely (λ net valid timing valid_timing.
+      fit_proper words.homes files net machine valid machine_valid timing (Next (placed words machine net timing)) (λ acyclic fits.
+      on (placed words machine net timing) (record { valid = valid; machine_valid = machine_valid; timely = valid_timing; acyclic = acyclic; fits = fits }))))
+
+  -- and its stimulus
+  ready_proper : (words : RunWords) (files : List (List ℕ)) (Next : Continuation Prepared) → IsValidTiming words.timing
+      → ((design : Placed) (stimulus : Stimulus) → IsRight words design → IsCommand files (Next (record { placed = design; stimulus = stimulus })))
+      → IsCommand (option_to_list words.machine ++ (words.netlist ∷ (option_to_list words.last ++ (words.stimulus ∷ files)))) (AfterReady words Next)
+  ready_proper words files Next timely on =
+      let Fed : Placed → Stimulus → List Reading → Outcome → Type 0 = λ design stimulus. Next (record { placed = design; stimulus = stimulus }) in
+      placed_proper words (words.stimulus ∷ files) (λ design. AfterStimulus words.stimulus design.net (Fed design)) timely (λ design right.
+      stimulus_proper words.stimulus files design.net (Fed design) (λ stimulus. on design stimulus right))
+
+  lanes_proper : (words : RunWords) (design : Placed) (lanes : Lanes) → IsAcyclic design.net design.timing → IsCommand [] (KeepsLanes words design lanes)
+  lanes_proper words design lanes acyclic =
+      let net = design.net in
+      let timing = design.timing in
+      let told = Some (lanes_turns words design lanes) in
       let one : (stimulus : Stimulus) → HasOneSimulation net timing stimulus = λ stimulus. laws.one_simulation net timing stimulus acyclic in
       let traces = traces_some net timing one 0 lanes.lanes in
-      command_after [] (HasFewLaneCells net lanes) (λ few. Ends (Writes (AreLaneTraces net timing lanes))) (size_check MAX_CELLS (lane_cell_count net lanes) cells_line) (λ few cells.
-      command_ends (Writes (AreLaneTraces net timing lanes)) (writes_ending (AreLaneTraces net timing lanes) (λ s t is is_too. (traces_only net timing one 0 lanes.lanes s t is is_too)))
-      (outcome_writes (AreLaneTraces net timing lanes) traces.0 traces.1))
-
-  packs_proper : (words : RunWords) (machine : Machine) → IsValidMachine machine → (net : Netlist) → IsValid net → (timing : Timing) → IsCommand (words.stimulus ∷ []) (PacksIn words KeepsLanesOn machine net timing)
-  unfolding AfterLanes
-  packs_proper words machine machine_valid net valid timing =
-      let files : List (List ℕ) = words.stimulus ∷ [] in
-      let Then : List Reading → Outcome → Type 0 = AfterLanes words.stimulus net (KeepsLanesOn machine timing net) in
-      fit_proper words.homes files net machine valid machine_valid timing (After (HasFewBits net) (λ few. Then)) (λ acyclic fits.
-      command_after files (HasFewBits net) (λ few. Then) (size_check MAX_PACK_BITS (memory_bits net) bits_limit_line) (λ few bits.
-      command_file words.stimulus [] (λ text. After (IsLanesOf text net) (KeepsLanes net timing)) (λ text short.
-      command_after [] (IsLanesOf text net) (KeepsLanes net timing) (lanes_check text net) (λ lanes is. lanes_proper net timing lanes acyclic))))
+      command_after [] (HasFewLaneCells net lanes) (λ few. Ends (WritesTold told (AreLaneTraces net timing lanes))) (size_check MAX_CELLS (lane_cell_count net lanes) cells_line) (λ few cells.
+      command_ends (WritesTold told (AreLaneTraces net timing lanes)) (writes_ending told (AreLaneTraces net timing lanes) (λ s t is is_too. (traces_only net timing one 0 lanes.lanes s t is is_too)))
+      (outcome_writes told (AreLaneTraces net timing lanes) traces.0 traces.1))
 
   pack_proper : (words : RunWords) → IsValidTiming words.timing → IsCommand (option_to_list words.machine ++ (words.netlist ∷ (option_to_list words.last ++ (words.stimulus ∷ [])))) (ExpectedPack words)
+  unfolding AfterLanes
   pack_proper words timely =
-      machine_proper words.machine (words.netlist ∷ (option_to_list words.last ++ (words.stimulus ∷ []))) (PacksOn words KeepsLanesOn) (λ machine machine_valid.
-      netlist_proper words (words.stimulus ∷ []) (PacksIn words KeepsLanesOn machine) timely (λ net valid timing valid_timing. packs_proper words machine machine_valid net valid timing))
+      let files : List (List ℕ) = words.stimulus ∷ [] in
+      placed_proper words files (Packs words) timely (λ design right.
+      command_after files (HasFewBits design.net) (λ few. AfterLanes words.stimulus design.net (KeepsLanes words design)) (size_check MAX_PACK_BITS (memory_bits design.net) bits_limit_line) (λ few bits.
+      command_file words.stimulus [] (λ text. After (IsLanesOf text design.net) (KeepsLanes words design)) (λ text short.
+      command_after [] (IsLanesOf text design.net) (KeepsLanes words design) (lanes_check text design.net) (λ lanes is. lanes_proper words design lanes right.acyclic))))
 
   list_of_faults : (net : Netlist) (timing : Timing) (faults : List Fault) (stimulus : Stimulus) → HasOneList net timing stimulus faults → IsCommand [] (ListsFaults net timing faults stimulus)
   list_of_faults net timing faults stimulus one =
-      command_ends (Writes (IsFaultList net timing stimulus faults)) (writes_ending (IsFaultList net timing stimulus faults) (λ s t is is_too. (only s t is is_too)))
-      (outcome_writes (IsFaultList net timing stimulus faults) (joined (fault_lines net faults one.verdicts)) (record { verdicts = one.verdicts; are = one.exists; printed = refl }))
+      command_ends (Writes (IsFaultList net timing stimulus faults)) (writes_ending None (IsFaultList net timing stimulus faults) (λ s t is is_too. (only s t is is_too)))
+      (outcome_writes None (IsFaultList net timing stimulus faults) (joined (fault_lines net faults one.verdicts)) (record { verdicts = one.verdicts; are = one.exists; printed = refl }))
     where
       only : (s t : List ℕ) → IsFaultList net timing stimulus faults s → IsFaultList net timing stimulus faults t → s ≡ t
       only s t is is_too = is.printed ∙ ap (λ verdicts. joined (fault_lines net faults verdicts)) (one.only is.verdicts is.are ∙ sym (one.only is_too.verdicts is_too.are)) ∙ sym is_too.printed
@@ -283,8 +308,8 @@ module _ (laws : Laws) where
 
   one_text_of_marks : (net : Netlist) (timing : Timing) (stimulus : Stimulus) → HasOneCoverage net timing stimulus → IsCommand [] (WritesCoverage net timing stimulus)
   one_text_of_marks net timing stimulus one =
-      command_ends (Writes (IsCoverage net timing stimulus)) (writes_ending (IsCoverage net timing stimulus) (λ s t is is_too. (only s t is is_too)))
-      (outcome_writes (IsCoverage net timing stimulus) (joined (cover_lines net one.marks)) (record { marks = one.marks; are = one.exists; printed = refl }))
+      command_ends (Writes (IsCoverage net timing stimulus)) (writes_ending None (IsCoverage net timing stimulus) (λ s t is is_too. (only s t is is_too)))
+      (outcome_writes None (IsCoverage net timing stimulus) (joined (cover_lines net one.marks)) (record { marks = one.marks; are = one.exists; printed = refl }))
     where
       only : (s t : List ℕ) → IsCoverage net timing stimulus s → IsCoverage net timing stimulus t → s ≡ t
       only s t is is_too = is.printed ∙ ap (λ marks. joined (cover_lines net marks)) (one.only is.marks is.are ∙ sym (one.only is_too.marks is_too.are)) ∙ sym is_too.printed
@@ -302,82 +327,83 @@ module _ (laws : Laws) where
   sheet_proper sheet.Report choice net machine timing valid machine_valid timely acyclic fits =
       let once = laws.once choice net machine timing valid in
       let report = some_report choice net machine timing once (laws.homes choice net machine timing valid machine_valid fits) in
-      command_ends (Writes (IsReportOf choice net machine timing)) (writes_ending (IsReportOf choice net machine timing) (one_report choice net machine timing once))
-      (outcome_writes (IsReportOf choice net machine timing) report.0 report.1)
+      command_ends (Writes (IsReportOf choice net machine timing)) (writes_ending None (IsReportOf choice net machine timing) (one_report choice net machine timing once))
+      (outcome_writes None (IsReportOf choice net machine timing) report.0 report.1)
   sheet_proper sheet.Image choice net machine timing valid machine_valid timely acyclic fits =
       let text = some_text choice net machine timing (laws.designs choice net machine timing valid machine_valid timely acyclic fits) in
-      command_ends (Writes (IsImageTextOf choice net machine timing)) (writes_ending (IsImageTextOf choice net machine timing) (one_text choice net machine timing (laws.one_image choice net machine timing valid)))
-      (outcome_writes (IsImageTextOf choice net machine timing) text.0 text.1)
+      command_ends (Writes (IsImageTextOf choice net machine timing)) (writes_ending None (IsImageTextOf choice net machine timing) (one_text choice net machine timing (laws.one_image choice net machine timing valid)))
+      (outcome_writes None (IsImageTextOf choice net machine timing) text.0 text.1)
 
   layout_proper : (asked : Sheet) (words : RunWords) → IsValidTiming words.timing → IsCommand (option_to_list words.machine ++ (words.netlist ∷ option_to_list words.last)) (ExpectedLayout asked words)
   layout_proper asked words timely =
-      machine_proper words.machine (words.netlist ∷ option_to_list words.last) (ExpectedLayoutOn asked words) (λ machine machine_valid.
-      subst (λ (files : List (List ℕ)). IsCommand (words.netlist ∷ files) (ExpectedLayoutOn asked words machine)) (append-nil (option_to_list words.last))
-      (netlist_proper words [] (LaysOut asked words.homes machine) timely (λ net valid timing valid_timing.
-      fit_proper words.homes [] net machine valid machine_valid timing (Ends (Writes (IsSheetOf asked words.homes net machine timing))) (λ acyclic fits.
-      sheet_proper asked words.homes net machine timing valid machine_valid valid_timing acyclic fits))))
+      subst (λ (files : List (List ℕ)). IsCommand (option_to_list words.machine ++ (words.netlist ∷ files)) (ExpectedLayout asked words)) (append-nil (option_to_list words.last))
+      (placed_proper words [] (λ design. Ends (Writes (IsSheetOf asked words.homes design.net design.machine design.timing))) timely (λ design right.
+      sheet_proper asked words.homes design.net design.machine design.timing right.valid right.machine_valid right.timely right.acyclic right.fits))
 
-  large_proper : (gates cycles : ℕ) → gates ≤ MAX_LARGE_GATES → IsCommand [] (ExpectedLarge gates cycles)
-  large_proper gates cycles few =
+  large_proper : (gates cycles workers : ℕ) → gates ≤ MAX_LARGE_GATES → IsCommand [] (ExpectedLarge gates cycles workers)
+  large_proper gates cycles workers few =
+      let told = Some (large_turns cycles workers) in
+      let IsEnd : Outcome → Type 0 = λ o. WritesTold told (IsSummaryOf gates cycles) o ⊎ (o ≡ telling told out_of_memory) in
       let summary = laws.summaries gates cycles few in
-      command_ends (Writes (IsSummaryOf gates cycles)) (writes_ending (IsSummaryOf gates cycles) (λ s t is is_too. (laws.one_summary gates cycles s t few is is_too)))
-      (outcome_writes (IsSummaryOf gates cycles) summary.0 summary.1)
+      command_ends IsEnd (full_ending told (WritesTold told (IsSummaryOf gates cycles)) (writes_ending told (IsSummaryOf gates cycles) (λ s t is is_too. (laws.one_summary gates cycles s t few is is_too))))
+      (outcome_ends IsEnd (telling told (done summary.0)) (inl (summary.0, summary.1, refl)) (λ e. cc))
 
   help_proper : (topic : Option Topic) → IsCommand [] (ExpectedHelp topic)
   help_proper topic =
-      command_ends (Writes (λ output. output ≡ text_of topic)) (writes_ending (λ output. output ≡ text_of topic) (λ s t e f. (e ∙ sym f)))
-      (outcome_writes (λ output. output ≡ text_of topic) (text_of topic) refl)
+      command_ends (Writes (λ output. output ≡ text_of topic)) (writes_ending None (λ output. output ≡ text_of topic) (λ s t e f. (e ∙ sym f)))
+      (outcome_writes None (λ output. output ≡ text_of topic) (text_of topic) refl)
 
   show_proper : (file : List ℕ) → IsCommand (file ∷ []) (ExpectedShow file)
   unfolding ExpectedShow
   show_proper file =
       command_file file [] (λ text. After (IsNetlistOf text) (λ net. Ends (Writes (λ output. output ≡ canonical_text net)))) (λ text short.
       command_after [] (IsNetlistOf text) (λ net. Ends (Writes (λ output. output ≡ canonical_text net))) (netlist_check text) (λ net is.
-      command_ends (Writes (λ output. output ≡ canonical_text net)) (writes_ending (λ output. output ≡ canonical_text net) (λ s t e f. (e ∙ sym f)))
-      (outcome_writes (λ output. output ≡ canonical_text net) (canonical_text net) refl)))
+      command_ends (Writes (λ output. output ≡ canonical_text net)) (writes_ending None (λ output. output ≡ canonical_text net) (λ s t e f. (e ∙ sym f)))
+      (outcome_writes None (λ output. output ≡ canonical_text net) (canonical_text net) refl)))
 
-  image_proper : (words : RunWords) (name : List ℕ) (net : Netlist) → IsValid net → (timing : Timing) → IsCommand (name ∷ words.stimulus ∷ []) (OnImage words name WritesTraceOf net timing)
+  image_proper : (words : RunWords) (name : List ℕ) (net : Netlist) → IsValid net → (timing : Timing) → IsCommand (name ∷ words.stimulus ∷ []) (OnImage words name net timing)
   unfolding AfterImage
   image_proper words name net valid timing =
-      let Run : Image → List Reading → Outcome → Type 0 = RunsImage words WritesTraceOf net timing in
+      let Run : Image → List Reading → Outcome → Type 0 = RunsImage words net timing in
       command_after (name ∷ words.stimulus ∷ []) (HasNoLoop net timing) (λ passed. AfterImage name net timing Run) (loop_check net timing (laws.order_or_loop net timing) (laws.never_both net timing)) (λ passed acyclic.
       command_file name (words.stimulus ∷ []) (λ text. After (IsImageFileOf text) (λ file. AfterMatch net timing file Run)) (λ text short.
       command_after (words.stimulus ∷ []) (IsImageFileOf text) (λ file. AfterMatch net timing file Run) (image_check text) (λ file is.
       command_after (words.stimulus ∷ []) (IsAccepted net timing file) (λ accepted. Run file.image) (laws.accepted net timing file valid acyclic is.ranges.claims) (λ accepted matches.
-      stimulus_proper words.stimulus [] net (WritesTraceOf file.image timing net) (λ stimulus. trace_proper net timing stimulus acyclic)))))
+      stimulus_proper words.stimulus [] net (RunsTo (length file.image.ports) words timing net) (λ stimulus. trace_proper (Some (run_turns (length file.image.ports) words timing net stimulus)) net timing stimulus acyclic)))))
 
   exec_proper : (words : RunWords) (name : List ℕ) → IsValidTiming words.timing → IsCommand (words.netlist ∷ (option_to_list words.last ++ (name ∷ words.stimulus ∷ []))) (ExpectedExec words name)
-  exec_proper words name timely = netlist_proper words (name ∷ words.stimulus ∷ []) (OnImage words name WritesTraceOf) timely (λ net valid timing valid_timing. image_proper words name net valid timing)
+  exec_proper words name timely = netlist_proper words (name ∷ words.stimulus ∷ []) (OnImage words name) timely (λ net valid timing valid_timing. image_proper words name net valid timing)
+
+  run_proper : (words : RunWords) → IsValidTiming words.timing → IsCommand (option_to_list words.machine ++ (words.netlist ∷ (option_to_list words.last ++ (words.stimulus ∷ [])))) (ExpectedRun words)
+  run_proper words timely =
+      ready_proper words [] (RunsOn words) timely (λ design stimulus right. trace_proper (Some (run_turns (ports_of design.machine) words design.timing design.net stimulus)) design.net design.timing stimulus right.acyclic)
 
   -- with an order file the state after the steps of the order tells the outcome
-  ends_proper : (file : Option (List ℕ)) (words : RunWords) (machine : Machine) (timing : Timing) (net : Netlist) (stimulus : Stimulus) → 1 ≤ words.banks → IsValid net → IsValidMachine machine → IsValidTiming timing → IsAcyclic net timing
-      → FitsBy words.homes net machine timing → IsCommand (option_to_list file) (EndsBy file words machine timing net stimulus)
+  ends_proper : (file : Option (List ℕ)) (words : RunWords) (design : Placed) (stimulus : Stimulus) → 1 ≤ words.banks → IsRight words design → IsCommand (option_to_list file) (EndsBy file words design stimulus)
   unfolding EndsBy
-  ends_proper None words machine timing net stimulus banks valid machine_valid timely acyclic fits = trace_proper net timing stimulus acyclic
-  ends_proper (Some file) words machine timing net stimulus banks valid machine_valid timely acyclic fits =
-      command_file file [] (λ text. After (IsOrderOf text machine) (λ order. Ends (EndsInOrder order words.banks words.homes net machine timing stimulus))) (λ text short.
-      command_after [] (IsOrderOf text machine) (λ order. Ends (EndsInOrder order words.banks words.homes net machine timing stimulus)) (order_check text machine) (λ order is.
-      let simulation = laws.one_simulation net timing stimulus acyclic in
+  ends_proper None words design stimulus banks right = trace_proper None design.net design.timing stimulus right.acyclic
+  ends_proper (Some file) words design stimulus banks right =
+      let net = design.net in
+      let machine = design.machine in
+      let timing = design.timing in
+      let simulation = laws.one_simulation net timing stimulus right.acyclic in
+      command_file file [] (λ text. After (IsOrderOf text machine) (EndsAfter words design stimulus)) (λ text short.
+      command_after [] (IsOrderOf text machine) (EndsAfter words design stimulus) (order_check text machine) (λ order is.
       command_ends (EndsInOrder order words.banks words.homes net machine timing stimulus)
-      (order_ending net timing stimulus order words.banks words.homes machine simulation (laws.decides order words.banks words.homes net machine timing stimulus banks valid))
-      (order_outcome net timing stimulus order words.banks words.homes machine simulation (laws.designs words.homes net machine timing valid machine_valid timely acyclic fits)
+      (order_ending net timing stimulus order words.banks words.homes machine simulation (laws.decides order words.banks words.homes net machine timing stimulus banks right.valid))
+      (order_outcome net timing stimulus order words.banks words.homes machine simulation (laws.designs words.homes net machine timing right.valid right.machine_valid right.timely right.acyclic right.fits)
       (laws.valid_orders (ports_of machine) text order is) (λ image well within. laws.steps image stimulus words.banks (turn_count timing stimulus) (steps_of order) well banks within))))
 
-  on_proper : (words : RunWords) (limited : Bool) (order : Option (List ℕ)) → 1 ≤ words.banks → IsValidTiming words.timing → (machine : Machine) → IsValidMachine machine
-      → IsCommand (words.netlist ∷ (option_to_list words.last ++ (words.stimulus ∷ option_to_list order))) (ExpectedOn words (EndsWithin limited order words) machine)
-  on_proper words limited order banks timely machine machine_valid =
-      netlist_proper words (words.stimulus ∷ option_to_list order) (OnTiming words (EndsWithin limited order words) machine) timely (λ net valid timing valid_timing.
-      fit_proper words.homes (words.stimulus ∷ option_to_list order) net machine valid machine_valid timing (AfterStimulus words.stimulus net (EndsWithin limited order words machine timing net)) (λ acyclic fits.
-      stimulus_proper words.stimulus (option_to_list order) net (EndsWithin limited order words machine timing net) (λ stimulus.
-      cells_proper limited (option_to_list order) net stimulus (EndsBy order words machine timing net stimulus) (ends_proper order words machine timing net stimulus banks valid machine_valid valid_timing acyclic fits))))
-
-  run_proper : (words : RunWords) (limited : Bool) (order : Option (List ℕ)) → 1 ≤ words.banks → IsValidTiming words.timing → IsCommand (option_to_list words.machine ++ (words.netlist ∷ (option_to_list words.last ++ (words.stimulus ∷ option_to_list order)))) (ExpectedRun words limited order)
-  run_proper words limited order banks timely = machine_proper words.machine (words.netlist ∷ (option_to_list words.last ++ (words.stimulus ∷ option_to_list order))) (ExpectedOn words (EndsWithin limited order words)) (on_proper words limited order banks timely)
+  order_proper : (words : RunWords) → 1 ≤ words.banks → IsValidTiming words.timing → IsCommand (option_to_list words.machine ++ (words.netlist ∷ (option_to_list words.last ++ (words.stimulus ∷ option_to_list words.order)))) (ExpectedOrder words)
+  order_proper words banks timely =
+      let files : List (List ℕ) = option_to_list words.order in
+      ready_proper words files (OrdersOn words) timely (λ design stimulus right.
+      cells_proper files design.net stimulus (EndsBy words.order words design stimulus) (ends_proper words.order words design stimulus banks right))
 
   command_proper : (asked : Command) → IsInRange asked → IsCommand (files_of asked) (ExpectedOf asked)
-  command_proper (command.Run words) range = run_proper words false None range.banks_some range.timing
+  command_proper (command.Run words) range = run_proper words range.timing
   command_proper (command.Refer words) range = refer_proper words range.timing
-  command_proper (command.Order words) range = run_proper words true words.order range.banks_some range.timing
+  command_proper (command.Order words) range = order_proper words range.banks_some range.timing
   command_proper (command.Plan words) range = layout_proper sheet.Report words range.timing
   command_proper (command.Compile words) range = layout_proper sheet.Image words range.timing
   command_proper (command.Exec words image) range = exec_proper words image range.timing
@@ -385,7 +411,7 @@ module _ (laws : Laws) where
   command_proper (command.Fault words) range = fault_proper words range.timing
   command_proper (command.Cover words) range = cover_proper words range.timing
   command_proper (command.Show file) range = show_proper file
-  command_proper (command.Large gates cycles workers) range = large_proper gates cycles range.gates_few
+  command_proper (command.Large gates cycles workers) range = large_proper gates cycles workers range.gates_few
   command_proper (command.Help topic) range = help_proper topic
 
   -- ---- words

@@ -61,7 +61,7 @@ returns c compiling running executing compile run exec image form_compiling form
     ] in
     elim ends.ends [
       | inl whole ↦ elim end [
-        | inl is ↦ inl (whole.0 ∙ ap (λ (o : Outcome). o.status) is, whole.1 ∙ ap (λ (o : Outcome). append_known old o.output) is)
+        | inl is ↦ inl (whole.0 ∙ is.0, whole.1 ∙ ap (append_known old) is.1)
         | inr (inl memory) ↦ inr (inl (whole.0 ∙ memory))
         | inr (inr fault) ↦ inr (inr (inl (
           whole.0 ∙ fault,

@@ -11,6 +11,7 @@ returns g c = record {
   read = c.yse.ensures.expected.2;
   is = c.yse.ensures.expected.3;
   ends = c.yse.ensures.expected.4;
+  told_turns = c.yse.ensures.expected.5;
   complete = c.yse.ensures.complete;
   visits = c.yse.ensures.visits;
   words_refused = c.yse.ensures.words;

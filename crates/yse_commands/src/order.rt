@@ -1,0 +1,75 @@
+//! `order`: what is done of the trace of the reference simulation by the end of an order of the ports' steps.
+
+ghost use Rattle.std.specs.Prelude.{◌≡◌, IfOk, None};
+ghost use Rattle.cmd_words.specs.Forms.{IsRunInRange};
+ghost use Rattle.yse_commands.specs.Outputs.{CanWrite};
+ghost use Rattle.yse_commands.specs.Refusals.{Follows, outcome_of};
+ghost use Rattle.yse_commands.specs.commands.Run.{EndsAfter, ExpectedOrder};
+ghost use Rattle.named_files.specs.Passing.{AfterOrderFile};
+
+use crate::output::Output;
+use crate::steps::{by_order, by_rounds};
+use cmd_words::RunWords;
+use edge_io::Files;
+use named_files::{Ready, few_ready_cells, order_for, ready_on_machine};
+use refusal_lines::Refusal;
+use seen_list::Memory;
+use std::alloc::Global;
+
+/// The trace of a run in the order of the named file, as far as it is done, and without one of a whole run. The machine
+/// is that of the named file, or the default machine.
+#[tactic(auto, unfolding(crate::specs::commands::Run::EndsBy))]
+pub fn order<'a, F: Files>(
+    alloc: Global,
+    files: &mut F,
+    words: &'a RunWords,
+) -> Result<Output, Refusal<'a>>
+    requires { IsRunInRange words.now }
+    ensures same_names { F.names files.new ≡ F.names files.old }
+    ensures same_bytes { F.bytes files.new ≡ F.bytes files.old }
+    ensures expected { Follows (F.names files.old) (F.bytes files.old) (F.counts files.old) (F.counts files.new)
+        (outcome_of None result) (ExpectedOrder words.now) }
+    ensures writable { IfOk result CanWrite }
+{
+    let ready = match ready_on_machine(alloc, files, words) {
+        Ok(ready) => ready,
+        Err(no) => return Err(no),
+    };
+    match few_ready_cells(&ready) {
+        Ok(()) => {}
+        Err(no) => return Err(no),
+    }
+    match &words.order {
+        Some(file) => in_order(alloc, files, words, file.as_bytes(), ready),
+        None => match by_rounds(alloc, words, ready) {
+            Ok(trace) => Ok(Output::Trace(trace)),
+            Err(Memory) => Err(Refusal::Memory),
+        },
+    }
+}
+
+/// What is done of the trace of a design by the end of the order of the named file.
+fn in_order<'a, F: Files>(
+    alloc: Global,
+    files: &mut F,
+    words: &'a RunWords,
+    file: &'a [u8],
+    ready: Ready,
+) -> Result<Output, Refusal<'a>>
+    requires range { IsRunInRange words.now }
+    requires homes { ready.placed.homes ≡ words.now.homes }
+    ensures same_names { F.names files.new ≡ F.names files.old }
+    ensures same_bytes { F.bytes files.new ≡ F.bytes files.old }
+    ensures expected { Follows (F.names files.old) (F.bytes files.old) (F.counts files.old) (F.counts files.new)
+        (outcome_of None result) (AfterOrderFile file.now ready.placed.machine (EndsAfter words.now ready.placed ready.stimulus)) }
+    ensures writable { IfOk result CanWrite }
+{
+    let order = match order_for(alloc, files, file, &ready) {
+        Ok(order) => order,
+        Err(no) => return Err(no),
+    };
+    match by_order(alloc, words, ready, &order) {
+        Ok(output) => Ok(output),
+        Err(Memory) => Err(Refusal::Memory),
+    }
+}
