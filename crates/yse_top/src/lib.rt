@@ -108,7 +108,8 @@ pub fn yse<R: Threads + Wait + Sync, F: Files, O: Sink, E: Sink, G: Gate + Send>
         × (O.taken out.new ≡ append_known (O.taken out.old) output)
         × IsOutputOfFiles (F.bytes files.old) output (asked (map string_bytes words.now)) }
 
-    // The call comes to an outcome that is expected of the words and of what was read, and the gates were told of its turns.
+    // The call comes to an outcome that is expected of the words and of what was read, and the gates were told of its
+    // turns.
     ensures expected { (readings : List Reading) × (outcome : Outcome)
         × AreReadings (F.names files.old) (F.bytes files.old) (F.counts files.old) (F.counts files.new) readings
         × Expected (map string_bytes words.now) readings outcome
