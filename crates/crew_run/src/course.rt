@@ -148,15 +148,16 @@ impl Course {
         self.due = 0;
         if round.arrived {
             self.done = round.latest < self.goal;
-            self.begin_lap(round.latest);
+            self.begin_lap(round.earliest);
         } else if round.moved == 0 {
             // one of them waits for a later turn of another
             self.goal = NO_TURN;
         }
     }
 
-    fn begin_lap(&mut self, latest: u64) {
-        let reached = if self.laps == 0 { latest } else { self.goal };
+    /// The first lap goes to the turn after that of the member furthest behind: one far ahead holds nobody up.
+    fn begin_lap(&mut self, earliest: u64) {
+        let reached = if self.laps == 0 { earliest } else { self.goal };
         self.goal = reached.saturating_add(1);
         self.laps = self.laps.saturating_add(1);
         if self.laps > WRITTEN_LAP {

@@ -21,6 +21,8 @@ pub const STEPS_A_ROUND: u32 = 64;
 pub struct Progress {
     /// The steps by which a member moved.
     pub moved: u64,
+    /// The turn of the member furthest behind.
+    pub earliest: u64,
     /// The latest turn that a member is in.
     pub latest: u64,
     /// Each member was found done, or halted by its pace.
@@ -32,6 +34,7 @@ impl Progress {
     pub fn none() -> Progress {
         Progress {
             moved: 0,
+            earliest: u64::MAX,
             latest: 0,
             arrived: true,
         }
@@ -39,9 +42,11 @@ impl Progress {
 
     /// That of one member.
     fn of<S: Stepper>(member: &S, moved: u64, arrived: bool) -> Progress {
+        let turn = member.turn();
         Progress {
             moved,
-            latest: member.turn(),
+            earliest: turn,
+            latest: turn,
             arrived,
         }
     }
@@ -50,6 +55,7 @@ impl Progress {
     pub fn and(self, other: Progress) -> Progress {
         Progress {
             moved: self.moved.saturating_add(other.moved),
+            earliest: self.earliest.min(other.earliest),
             latest: self.latest.max(other.latest),
             arrived: self.arrived && other.arrived,
         }
@@ -82,6 +88,7 @@ fn tell_turns<S: Stepper, G: Gate>(members: &[S], gate: &mut G)
 }
 
 /// Makes one step of a member, and tells the gate where by it a turn begins.
+#[inline(always)]
 fn step_once<S: Stepper, G: Gate>(member: &mut S, gate: &mut G) -> Step
     requires port { S.port member.old < MAX_PORTS }
     requires within { S.turn member.old ≤ S.last_turn member.old + 1 }
