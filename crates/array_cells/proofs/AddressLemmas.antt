@@ -10,7 +10,7 @@ use Rattle.logic_four.specs.declared.V4.{V4}
 use Rattle.logic_four.specs.declared.V4.TheVariants.{Zero, One, Undef, HighZ}
 use Rattle.logic_four.specs.Gates.{is_one, is_known}
 use Rattle.logic_four.specs.Memory.{bits_number, address_of}
-use Rattle.logic_four.proofs.MemoryLemmas.{bits_number-within}
+use Rattle.logic_four.proofs.lemmas.MemoryLemmas.{bits_number-within}
 
 abbrev pub digit_of : V4 → ℕ
 digit_of bit = if is_one bit then 1 else 0

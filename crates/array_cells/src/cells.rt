@@ -157,7 +157,7 @@ impl Cells {
     /// the address. Then an enable of 1 writes the settled data into that word, an undefined one makes
     /// the word undefined, and an undefined address makes every word undefined unless the enable is 0
     /// (this project's profile).
-    #[tactic(auto, using(logic_four::proofs::MemoryLemmas::shape_at), unfolding(logic_four::specs::Memory::read_word, logic_four::specs::Memory::written))]
+    #[tactic(auto, using(logic_four::proofs::lemmas::MemoryLemmas::shape_at), unfolding(logic_four::specs::Memory::read_word, logic_four::specs::Memory::written))]
     pub fn edge(&mut self, we: V4, address: &[V4], word: &[V4], outs: &mut [V4])
         requires shape { HasShape (length address.now) (length word.now) self.old }
         requires outs_fit { length outs.old ≡ length word.now }

@@ -6,7 +6,7 @@ use Rattle.std.specs.List.{All, flat_map, enumerate_from}
 use Rattle.std.proofs.lemmas.Bool.{cond-true, cond-false, false_from_ne_true}
 use Rattle.logic_four.specs.declared.Kind.TheVariants.{And}
 use Rattle.logic_four.specs.Kinds.{kind_of, kind_word, allows_operands}
-use Rattle.logic_four.proofs.KindLemmas.{canonical, any_case, some_operands}
+use Rattle.logic_four.proofs.lemmas.KindLemmas.{canonical, any_case, some_operands}
 use Rattle.text_lines.specs.Names.{IsName, is_mark, is_name_byte}
 use Rattle.bench_text.specs.Tokens.{first_fault as byte_fault}
 use Rattle.bench_text.specs.declared.token.Mark.TheVariants.{Open, Close, Semi, Equals, Left, Right}

@@ -55,7 +55,7 @@ pub use Rattle.std.proofs.lemmas.Simd.{map-map}
 pub use Rattle.std.specs.List.{count_by, enumerate_from, find, flat_map, list_any, position, range_with_len, sum_by}
 pub use Rattle.std.specs.Option.{option_map, option_or}
 pub use Rattle.std.specs.Prelude.{MatchResult, codes, ◌↔◌}
-pub use Rattle.text_lines.proofs.AnswerLemmas.{first-zero, or_none}
+pub use Rattle.text_lines.proofs.lemmas.AnswerLemmas.{first-zero, or_none}
 pub use Rattle.text_lines.specs.Answers.{Answers}
 unfoldable pub use Rattle.text_lines.specs.Answers.{first}
 pub use Rattle.text_lines.specs.Bytes.{is_line_feed}

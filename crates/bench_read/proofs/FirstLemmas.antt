@@ -3,7 +3,7 @@ use Rattle.std.proofs.Common.{◌≡◌, ℕ, zero, suc, ◌<◌, List, [], ◌�
 use Rattle.bench_read.proofs.Common.{◌↔◌, option_or, take-append_seam, first}
 use Rattle.std.proofs.lemmas.List.{length_push, take-append-le}
 use Rattle.list_laws.proofs.Places.{at_front, seam_at}
-use Rattle.text_lines.proofs.AnswerLemmas.{first-zero, first-suc, or_none}
+use Rattle.text_lines.proofs.lemmas.AnswerLemmas.{first-zero, first-suc, or_none}
 
 -- what holds of some members, and still with one more, holds with all
 pub by_push : {X : Type 0} (P : List X → Type 0) → ((xs : List X) (x : X) → P xs → P (xs ++ x ∷ [])) → (xs ys : List X) → P xs → P (xs ++ ys)

@@ -14,8 +14,8 @@ use Rattle.std.proofs.lemmas.List.Quantifiers.{all_pairs_push}
 use Rattle.list_laws.proofs.Places.{split_at}
 use Rattle.text_lines.specs.Answers.{first}
 use Rattle.text_lines.specs.Words.{words_of}
-use Rattle.text_lines.proofs.AnswerLemmas.{first-zero, first_none, first_none_more, first_some, none_below}
-use Rattle.text_lines.proofs.LineLemmas.{IsNextLine}
+use Rattle.text_lines.proofs.lemmas.AnswerLemmas.{first-zero, first_none, first_none_more, first_some, none_below}
+use Rattle.text_lines.proofs.lemmas.LineLemmas.{IsNextLine}
 use Rattle.bench_read.specs.Once.{is_among, fault_at, first_fault_of}
 use Rattle.bench_read.specs.code.Once.{AreMarksOf}
 

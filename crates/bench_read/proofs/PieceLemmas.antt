@@ -9,13 +9,13 @@ use Rattle.text_lines.specs.Bytes.{is_visible, is_hash, is_line_feed, is_return,
 use Rattle.text_lines.specs.Names.{IsName, is_mark, is_name_byte}
 use Rattle.bench_text.specs.Bytes.{sign_of}
 use Rattle.bench_text.specs.declared.token.Mark.TheVariants.{Comma, Name}
-use Rattle.bench_text.proofs.ByteLemmas.{named_byte}
+use Rattle.bench_text.proofs.lemmas.ByteLemmas.{named_byte}
 use Rattle.bench_text.specs.Spelling.{Piece, Sign, Word, same_mark, listed}
 use Rattle.bench_text.specs.Rows.{goes_on, pieces_of}
 use Rattle.std.proofs.lemmas.List.Sums.{AllPass-from_list_all, position_or_len_is}
 use Rattle.text_lines.specs.Lines.{lines_of, part_of}
 use Rattle.text_lines.specs.Places.{is_line_end}
-use Rattle.text_lines.proofs.AnswerLemmas.{first_none}
+use Rattle.text_lines.proofs.lemmas.AnswerLemmas.{first_none}
 use Rattle.bench_text.specs.Tokens.{name_length, is_bad, fault_at, first_fault}
 
 -- ---- bytes

@@ -2,7 +2,7 @@
 use Rattle.std.proofs.Common.{◌≡◌, ℕ, cond, List, ◌++◌, length, take, slice_get, Option, Some, None, Result, Ok, Err, ap, ◌∙◌, ⊎_elim, arith}
 use Rattle.std.specs.Prelude.{IfErr, codes}
 use Rattle.bench_read.proofs.Common.{find, option_map, option_or, first, Answers, kind_of, Row, rows_of, form_of, BenchNo, Line, is_word, said_by_register, said_by_gate, said_by, said}
-use Rattle.text_lines.proofs.AnswerLemmas.{place_of_first}
+use Rattle.text_lines.proofs.lemmas.AnswerLemmas.{place_of_first}
 use Rattle.bench_text.specs.declared.token.TextNo.TheVariants as text_no
 use Rattle.bench_text.specs.Tokens.{first_fault as byte_fault}
 use Rattle.bench_text.specs.Forms.{Form, Port, Gate, Memory}

@@ -1,7 +1,7 @@
 -- What a row says by itself is what it says by its spelling.
 use Rattle.std.proofs.Common.{◌≡◌, Option, Some, None, Result, Ok, refl}
 use Rattle.bench_read.proofs.Common.{Form, Row, form_of, Line, Says, said_by, said}
-use Rattle.bench_text.proofs.SpellingLemmas.{form_again, form_spelled}
+use Rattle.bench_text.proofs.lemmas.SpellingLemmas.{form_again, form_spelled}
 
 pub from_ok : {X E : Type 0} (x y : X) → ◌≡◌ {A = Result X E} (Ok x) (Ok y) → x ≡ y
 from_ok x y e = cc

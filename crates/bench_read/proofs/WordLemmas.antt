@@ -6,12 +6,12 @@ use Rattle.std.proofs.lemmas.List.Elements.{All-map, All-weaker, recursion_from_
 use Rattle.std.proofs.lemmas.List.Sums.{list_all-from_AllPass}
 use Rattle.bench_read.proofs.Common.{all_front, all_back, all_of_map, Mark, Piece, Sign, Word}
 use Rattle.text_lines.specs.Names.{is_name_byte, IsName}
-use Rattle.text_lines.proofs.AnswerLemmas.{none_below}
+use Rattle.text_lines.proofs.lemmas.AnswerLemmas.{none_below}
 use Rattle.bench_text.specs.declared.token.Mark.TheVariants as mark
 use Rattle.bench_text.specs.declared.token.Token.{Token}
 use Rattle.bench_text.specs.Spans.{AreBytesOf, StandsIn}
 use Rattle.bench_text.specs.Tokens.{fault_at, first_fault, tokens_of}
-use Rattle.bench_text.proofs.SpanLemmas.{list_read}
+use Rattle.bench_text.proofs.lemmas.SpanLemmas.{list_read}
 use Rattle.bench_text.specs.Rows.{Row, rows_of, placed_pieces, piece_of}
 use Rattle.bench_text.proofs.TokenLemmas.{rows_are_tokens}
 

@@ -1,6 +1,4 @@
-pub mod ByteLemmas
+pub mod lemmas
 mod PartLemmas
 pub mod PlaceLemmas
-pub mod SpanLemmas
-pub mod SpellingLemmas
 pub mod TokenLemmas

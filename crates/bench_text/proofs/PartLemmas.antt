@@ -7,7 +7,7 @@ use Rattle.text_lines.specs.Names.{is_name_byte}
 use Rattle.bench_text.specs.Bytes.{sign_of, class_of}
 use Rattle.bench_text.specs.declared.class.Class.{Class}
 use Rattle.bench_text.specs.declared.class.Class.TheVariants as class
-use Rattle.bench_text.proofs.ByteLemmas.{IsOfClass, class_is, named_byte}
+use Rattle.bench_text.proofs.lemmas.ByteLemmas.{IsOfClass, class_is, named_byte}
 use Rattle.bench_text.specs.Spelling.{Piece, Sign, Word}
 use Rattle.bench_text.specs.Rows.{goes_on, pieces_of}
 use Rattle.bench_text.specs.declared.token.Mark.{Mark}

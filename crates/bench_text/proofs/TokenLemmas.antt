@@ -16,7 +16,7 @@ use Rattle.bench_text.specs.declared.token.Mark.TheVariants as mark
 use Rattle.bench_text.specs.Bytes.{sign_of, class_of}
 use Rattle.bench_text.specs.code.Scans.{follows_comment, scan_at, token_by}
 use Rattle.bench_text.specs.Tokens.{follows_name, name_length, tokens_before, tokens_of}
-use Rattle.bench_text.proofs.ByteLemmas.{IsOfClass, class_is, named_byte}
+use Rattle.bench_text.proofs.lemmas.ByteLemmas.{IsOfClass, class_is, named_byte}
 use Rattle.bench_text.proofs.PlaceLemmas.{is_comment_step, place_is}
 use Rattle.bench_text.specs.Spelling.{Piece, Sign, Word}
 use Rattle.bench_text.specs.Rows.{Row, goes_on, onto_pieces, pieces_of, is_some, rows_in, rows_of, placed_pieces, piece_of}

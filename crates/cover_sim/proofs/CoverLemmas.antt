@@ -13,7 +13,7 @@ use Rattle.net_defs.specs.Loops.{IsCircle}
 use Rattle.net_defs.specs.Reference.{HasOneSimulation}
 use Rattle.rank_find.proofs.Existence.{order_or_loop}
 use Rattle.ref_sim.specs.Observing.{HasWatched}
-use Rattle.ref_sim.proofs.Simulations.{one_along}
+use Rattle.ref_sim.proofs.lemmas.Simulations.{one_along}
 use Rattle.cover_sim.specs.declared.marks.Marks.{Marks}
 use Rattle.cover_sim.specs.Marks.{end_value, IsMarked, AreMarks, HasOneCoverage}
 use Rattle.cover_sim.specs.code.Watching.{no_marks, value_in, HaveMarks}

@@ -1,7 +1,6 @@
-pub mod Places
-pub mod StepLemmas
-pub mod PhaseLemmas
-pub mod RoomLemmas
 pub mod CrewLemmas
-pub mod SoloLemmas
+pub mod lemmas
 pub mod LendLemmas
+pub mod PhaseLemmas
+pub mod SoloLemmas
+pub mod StepLemmas

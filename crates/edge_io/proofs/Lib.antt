@@ -1,3 +1,2 @@
-pub mod Taking
-pub mod WritingLemmas
+pub mod lemmas
 pub mod ReadingLemmas

@@ -9,7 +9,7 @@ use Rattle.edge_io.specs.FileCounts.{CountsFaults, CountsRead}
 use Rattle.edge_io.specs.code.FileCounts.{CountsReads}
 use Rattle.edge_io.specs.declared.counts.FileCounts.{FileCounts}
 use Rattle.edge_io.specs.declared.reading.ReadNo.TheVariants as no
-use Rattle.edge_io.proofs.WritingLemmas.{rose_since}
+use Rattle.edge_io.proofs.lemmas.WritingLemmas.{rose_since}
 
 -- reads that gave n bytes, each at least one, and of which none failed
 pub record CountsSoFar (n : ℕ) (old new : FileCounts) : Type 0 where

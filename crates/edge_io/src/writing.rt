@@ -15,7 +15,7 @@ pub enum WriteNo {
 }
 
 /// Writes a whole piece, in as many writes as the sink wants. An empty piece makes no call.
-#[tactic(auto, using(crate::proofs::Taking::taken_more))]
+#[tactic(auto, using(crate::proofs::lemmas::Taking::taken_more))]
 pub fn write_whole<S: Sink>(sink: &mut S, piece: &[u8]) -> Result<(), WriteNo>
     ensures whole { OnOk result (S.taken sink.new ≡ append_known (S.taken sink.old) piece.now) }
     ensures prefix { OnErr result (TakesProperPrefix (S.taken sink.old) (S.taken sink.new) piece.now) }

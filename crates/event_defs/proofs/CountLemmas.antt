@@ -2,12 +2,12 @@
 use Rattle.std.proofs.Common.{Bool, Some, [], add-one, ap, arith, false, get_or-set_other, get_or-set_same, if◌then◌else◌, inl, inr, le-leb, length, nat_le, slice_get, subst, suc-mul, sym, true, zero-mul, ℕ, ◌*◌, ◌++◌, ◌+◌, ◌-◌, ◌<◌, ◌∙◌, ◌∷◌, ◌≡◌, ◌≤◌}
 use Rattle.std.proofs.lemmas.Bool.{cases_lt, lt-leb}
 use Rattle.std.proofs.lemmas.List.{length-map}
-use Rattle.image_defs.proofs.PlaceLemmas.{Rises, at_map}
+use Rattle.image_defs.proofs.lemmas.PlaceLemmas.{Rises, at_map}
 use Rattle.image_defs.specs.Places.{in_slots, out_slots}
 use Rattle.image_defs.specs.declared.image.LinkIn.{LinkIn}
 use Rattle.image_defs.specs.declared.image.LinkOut.{LinkOut}
 use Rattle.image_defs.specs.declared.image.PortImage.{PortImage}
-use Rattle.event_defs.proofs.SlotLemmas.{to_map}
+use Rattle.event_defs.proofs.lemmas.SlotLemmas.{to_map}
 use Rattle.event_defs.proofs.SumLemmas.{all_missing, missing_falls, none_missing, sum_falls}
 use Rattle.event_defs.specs.Counts.{asks_left, is_read_by, missing, port_left, work_left, work_of}
 use Rattle.event_defs.specs.Next.{EndsNext}

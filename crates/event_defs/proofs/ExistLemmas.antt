@@ -6,7 +6,7 @@ use Rattle.std.specs.List.Sorted.{IsStrictlyIncreasing}
 use Rattle.logic_four.specs.Values.{code_of}
 use Rattle.logic_four.specs.declared.V4.{V4}
 use Rattle.net_defs.specs.declared.stimulus.Stimulus.{Stimulus}
-use Rattle.image_defs.proofs.PlaceLemmas.{at_map, rises}
+use Rattle.image_defs.proofs.lemmas.PlaceLemmas.{at_map, rises}
 use Rattle.image_defs.specs.Frames.{image_value}
 use Rattle.image_defs.specs.Places.{Each, IsPort, Stands, in_slots, out_slots}
 use Rattle.image_defs.specs.WellFormed.{IsWellFormed}
@@ -14,9 +14,9 @@ use Rattle.image_defs.specs.declared.image.Image.{Image}
 use Rattle.image_defs.specs.declared.image.LinkIn.{LinkIn}
 use Rattle.image_defs.specs.declared.image.LinkOut.{LinkOut}
 use Rattle.image_defs.specs.declared.image.PortImage.{PortImage}
-use Rattle.event_defs.proofs.KeptLemmas.{read_stamp, step_sound}
-use Rattle.event_defs.proofs.PaceLemmas.{inside, source}
-use Rattle.event_defs.proofs.SlotLemmas.{to_map}
+use Rattle.event_defs.proofs.lemmas.KeptLemmas.{read_stamp, step_sound}
+use Rattle.event_defs.proofs.lemmas.PaceLemmas.{inside, source}
+use Rattle.event_defs.proofs.lemmas.SlotLemmas.{to_map}
 use Rattle.event_defs.specs.Counts.{missing}
 use Rattle.event_defs.specs.Next.{EndsNext, IsDoneBelow, IsNext, ReceivesNext, SendsNext}
 use Rattle.event_defs.specs.Places.{after_ask, after_put, after_take, after_tell, is_in, known_of}

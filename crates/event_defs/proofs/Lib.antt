@@ -1,16 +1,7 @@
-pub mod AlikeLemmas
 pub mod CountLemmas
 pub mod ExistLemmas
-pub mod JoinLemmas
-pub mod KeptLemmas
+pub mod lemmas
 pub mod LinkLemmas
-pub mod NextLemmas
-pub mod PaceLemmas
-pub mod RowLemmas
-pub mod RunLemmas
-pub mod SlotLemmas
 pub mod SourceLemmas
-pub mod StampLemmas
 pub mod StuckLemmas
 pub mod SumLemmas
-pub mod WordLemmas

@@ -10,10 +10,10 @@ use Rattle.image_defs.specs.declared.image.Image.{Image}
 use Rattle.image_defs.specs.declared.image.LinkIn.{LinkIn}
 use Rattle.image_defs.specs.declared.image.LinkOut.{LinkOut}
 use Rattle.image_defs.specs.declared.image.PortImage.{PortImage}
-use Rattle.event_defs.proofs.AlikeLemmas.{Summed, answered, next_alike, placed, receives_alike, stamped, summed, told}
-use Rattle.event_defs.proofs.KeptLemmas.{starts_sound, step_sound}
-use Rattle.event_defs.proofs.NextLemmas.{one_next, receives_one}
-use Rattle.event_defs.proofs.PaceLemmas.{same_send}
+use Rattle.event_defs.proofs.lemmas.AlikeLemmas.{Summed, answered, next_alike, placed, receives_alike, stamped, summed, told}
+use Rattle.event_defs.proofs.lemmas.KeptLemmas.{starts_sound, step_sound}
+use Rattle.event_defs.proofs.lemmas.NextLemmas.{one_next, receives_one}
+use Rattle.event_defs.proofs.lemmas.PaceLemmas.{same_send}
 use Rattle.event_defs.specs.Linked.{AreLinkedAlike, ArePortsAlike}
 use Rattle.event_defs.specs.code.Linked.{AreAlike}
 use Rattle.event_defs.specs.Next.{IsNext, ReceivesNext}

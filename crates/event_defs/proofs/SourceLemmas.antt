@@ -10,16 +10,16 @@ use Rattle.std.proofs.lemmas.Option.{get_or_from_slice_get, slice_get-get_or, sl
 use Rattle.std.specs.List.{list_any}
 use Rattle.std.specs.List.Sorted.{IsStrictlyIncreasing}
 use Rattle.list_laws.proofs.Places.{at_front, seam_at}
-use Rattle.image_defs.proofs.PlaceLemmas.{at_map, rises}
+use Rattle.image_defs.proofs.lemmas.PlaceLemmas.{at_map, rises}
 use Rattle.image_defs.specs.Places.{IsPort, out_slots}
 use Rattle.image_defs.specs.WellFormed.{IsLinkIn, IsWellFormed}
 use Rattle.image_defs.specs.declared.image.Image.{Image}
 use Rattle.image_defs.specs.declared.image.LinkIn.{LinkIn}
 use Rattle.image_defs.specs.declared.image.LinkOut.{LinkOut}
 use Rattle.image_defs.specs.declared.image.PortImage.{PortImage}
-use Rattle.event_defs.proofs.PaceLemmas.{same_port, source}
-use Rattle.event_defs.proofs.RowLemmas.{sends_are, sum_small}
-use Rattle.event_defs.proofs.SlotLemmas.{any_at, to_map}
+use Rattle.event_defs.proofs.lemmas.PaceLemmas.{same_port, source}
+use Rattle.event_defs.proofs.lemmas.RowLemmas.{sends_are, sum_small}
+use Rattle.event_defs.proofs.lemmas.SlotLemmas.{any_at, to_map}
 use Rattle.event_defs.specs.Counts.{of_port, sum_to}
 use Rattle.event_defs.specs.Row.{sends_before, sends_of}
 use Rattle.event_defs.specs.Sources.{AreFirsts, AreSources, IsSource}

@@ -10,10 +10,10 @@ use Rattle.image_defs.specs.declared.image.LinkIn.{LinkIn}
 use Rattle.image_defs.specs.declared.image.LinkOut.{LinkOut}
 use Rattle.image_defs.specs.declared.image.PortImage.{PortImage}
 use Rattle.event_defs.proofs.ExistLemmas.{step_exists, whole}
-use Rattle.event_defs.proofs.KeptLemmas.{read_stamp, reads_send}
-use Rattle.event_defs.proofs.NextLemmas.{receives_not_ends, receives_one, sends_not_ends, sends_not_receives, sends_one}
-use Rattle.event_defs.proofs.PaceLemmas.{latest_missing, latest_put, reader_port}
-use Rattle.event_defs.proofs.SlotLemmas.{to_map}
+use Rattle.event_defs.proofs.lemmas.KeptLemmas.{read_stamp, reads_send}
+use Rattle.event_defs.proofs.lemmas.NextLemmas.{receives_not_ends, receives_one, sends_not_ends, sends_not_receives, sends_one}
+use Rattle.event_defs.proofs.lemmas.PaceLemmas.{latest_missing, latest_put, reader_port}
+use Rattle.event_defs.proofs.lemmas.SlotLemmas.{to_map}
 use Rattle.event_defs.specs.Foremost.{ComesBefore, IsForemost, SendsAt}
 use Rattle.event_defs.specs.Next.{AsksNext, TakesNext, TellsNext}
 use Rattle.event_defs.specs.Places.{IsSend, is_in, latest}

@@ -1,9 +1,9 @@
 -- Sums over ports, and slots that are missing.
 use Rattle.std.proofs.Common.{Bool, List, Some, [], ap, arith, falls, false, if◌then◌else◌, inl, inr, length, refl, slice_get, subst, suc, sym, true, zero, ℕ, ◌*◌, ◌++◌, ◌+◌, ◌<◌, ◌∙◌, ◌∷◌, ◌≡◌, ◌≢◌}
 use Rattle.std.proofs.lemmas.Bool.{cases_eq}
-use Rattle.image_defs.proofs.PlaceLemmas.{Rises}
+use Rattle.image_defs.proofs.lemmas.PlaceLemmas.{Rises}
 use Rattle.image_defs.specs.Places.{Each}
-use Rattle.event_defs.proofs.SlotLemmas.{in_last, in_other}
+use Rattle.event_defs.proofs.lemmas.SlotLemmas.{in_last, in_other}
 use Rattle.event_defs.specs.Counts.{missing, sum_to}
 use Rattle.event_defs.specs.Places.{is_in}
 

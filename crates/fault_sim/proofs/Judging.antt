@@ -17,7 +17,7 @@ use Rattle.net_defs.specs.Loops.{IsOrder}
 use Rattle.net_defs.specs.Trace.{cells_of}
 use Rattle.net_defs.specs.declared.faults.Fault.{Fault}
 use Rattle.ref_sim.specs.Observing.{HasWatchedLanes}
-use Rattle.ref_sim.proofs.Simulations.{one_along}
+use Rattle.ref_sim.proofs.lemmas.Simulations.{one_along}
 use Rattle.wide_planes.specs.declared.TheConstants.{WIDE_LANES}
 use Rattle.fault_sim.specs.declared.faults.Verdict.{Verdict}
 use Rattle.fault_sim.specs.declared.faults.Verdict.TheVariants.{Seen, Unseen}

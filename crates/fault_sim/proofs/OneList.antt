@@ -15,7 +15,7 @@ use Rattle.net_defs.specs.Time.{cycle_count}
 use Rattle.net_defs.specs.Steps.{State}
 use Rattle.net_defs.specs.Loops.{IsOrder, IsCircle}
 use Rattle.rank_find.proofs.Existence.{order_or_loop}
-use Rattle.ref_sim.proofs.Simulations.{one_along}
+use Rattle.ref_sim.proofs.lemmas.Simulations.{one_along}
 use Rattle.net_defs.specs.declared.faults.Fault.{Fault}
 use Rattle.fault_sim.specs.declared.faults.Verdict.{Verdict}
 use Rattle.fault_sim.specs.declared.faults.Verdict.TheVariants.{Seen, Unseen}

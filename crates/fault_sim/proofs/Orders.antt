@@ -13,7 +13,7 @@ use Rattle.net_defs.specs.Steps.{is_late}
 use Rattle.net_defs.specs.Loops.{is_gate, IsGate, is_gate_driver, gate_operands, waits_for, IsOrder, IsCircle}
 use Rattle.net_defs.specs.Reference.{HasOneSimulation}
 use Rattle.rank_find.proofs.Existence.{order_or_loop}
-use Rattle.ref_sim.proofs.Simulations.{one_along}
+use Rattle.ref_sim.proofs.lemmas.Simulations.{one_along}
 use Rattle.net_defs.specs.declared.faults.Fault.{Fault}
 use Rattle.fault_sim.specs.Faults.{constant, stuck, IsFault}
 use Rattle.fault_sim.specs.code.Faults.{order_for}

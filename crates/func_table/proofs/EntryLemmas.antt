@@ -8,8 +8,8 @@ use Rattle.logic_four.specs.declared.Kind.{Kind}
 use Rattle.logic_four.specs.Values.{code_of, value_of}
 use Rattle.logic_four.specs.Gates.{gate_value}
 use Rattle.logic_four.specs.Packed.{packed_value}
-use Rattle.logic_four.proofs.CodeLemmas.{value_of-code_of, code_of_small, code_of-value_of}
-use Rattle.logic_four.proofs.PackedLemmas.{same_words}
+use Rattle.logic_four.proofs.lemmas.CodeLemmas.{value_of-code_of, code_of_small, code_of-value_of}
+use Rattle.logic_four.proofs.lemmas.PackedLemmas.{same_words}
 use Rattle.func_table.specs.declared.table.Table.{Table}
 use Rattle.func_table.specs.Entries.{entry_of, place_of, AreAlike, AreOther, entry_for}
 use Rattle.func_table.specs.code.Entries.{operands_at, answer_at}

@@ -17,7 +17,7 @@ use Rattle.node_defs.specs.declared.items.NodeBlock.{NodeBlock}
 use Rattle.node_defs.specs.declared.items.NodeNet.{NodeNet}
 use Rattle.plan_defs.specs.Lists.{IsLeastFree}
 use Rattle.plan_defs.specs.Picks.{bits_of, bits_before, bit_limit, bits_left, LacksRoom, AreHoused, FindsNoPort}
-use Rattle.plan_defs.proofs.PlanLemmas.{least_same}
+use Rattle.plan_defs.proofs.lemmas.PlanLemmas.{least_same}
 use Rattle.home_pick.specs.declared.blocks.Filling.{Filling}
 use Rattle.home_pick.specs.code.Rooms.{limits_of, LacksBits, IsMostLeft, AreFilled}
 

@@ -14,7 +14,7 @@ use Rattle.machine_text.specs.declared.machine.Machine.{Machine}
 use Rattle.machine_text.specs.declared.machine.PortLimit.{PortLimit}
 use Rattle.machine_text.specs.Limits.{same_limited, is_at}
 use Rattle.machine_text.specs.Machines.{IsValid}
-use Rattle.machine_text.proofs.LimitLemmas.{found_is}
+use Rattle.machine_text.proofs.lemmas.LimitLemmas.{found_is}
 use Rattle.node_defs.specs.declared.items.Item.{Item}
 use Rattle.node_defs.specs.declared.items.Item.TheVariants.{Input, BlockBit, Node, Latch}
 use Rattle.node_defs.specs.declared.items.NodeNet.{NodeNet}

@@ -17,8 +17,8 @@ use Rattle.machine_text.specs.Limits.{limit_at}
 use Rattle.node_defs.specs.declared.items.NodeNet.{NodeNet}
 use Rattle.plan_defs.specs.Lists.{IsLeastFree}
 use Rattle.plan_defs.specs.Picks.{node_limit, node_room, nodes_before, IsFull, IsInTurn}
-use Rattle.plan_defs.proofs.PlanLemmas.{least_one, least_same}
-use Rattle.plan_defs.proofs.CountLemmas.{few_before}
+use Rattle.plan_defs.proofs.lemmas.PlanLemmas.{least_one, least_same}
+use Rattle.plan_defs.proofs.lemmas.CountLemmas.{few_before}
 use Rattle.home_pick.specs.code.Rooms.{limits_of, IsSpent, AreTurned}
 use Rattle.home_pick.proofs.FillLemmas.{at_same, at_other, limits_at, limits_count}
 

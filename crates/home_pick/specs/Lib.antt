@@ -1,2 +1,5 @@
+pub mod Bags
+pub mod Better
 pub mod code
+pub mod Crossings
 pub mod Refusals

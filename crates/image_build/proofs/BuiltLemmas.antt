@@ -19,14 +19,14 @@ use Rattle.image_defs.specs.Places.{Each, IsPort, item_slots, in_slots}
 use Rattle.image_defs.specs.WellFormed.{IsHost, IsPortImage, IsWellFormed}
 use Rattle.image_defs.specs.Matches.{claims_of, IsClaim, ClaimsIn, ImplementsClaim, PrintsItems, Matches}
 use Rattle.image_defs.specs.Shows.{ShowsItems}
-use Rattle.image_defs.proofs.MatchLemmas.{shows_items}
+use Rattle.image_defs.proofs.lemmas.MatchLemmas.{shows_items}
 use Rattle.plan_defs.specs.declared.plan.Homes.{Homes}
 use Rattle.plan_defs.specs.declared.plan.Plan.{Plan}
 use Rattle.plan_defs.specs.declared.switch.Switch.{Switch}
 use Rattle.plan_defs.specs.Homes.{home_of, host_of, ports_of}
 use Rattle.plan_defs.specs.Slots.{slot_of}
 use Rattle.plan_defs.specs.Switches.{IsSwitch}
-use Rattle.plan_defs.proofs.PortLemmas.{home_port}
+use Rattle.plan_defs.proofs.lemmas.PortLemmas.{home_port}
 use Rattle.image_build.specs.Plans.{IsPlanned}
 use Rattle.image_build.specs.Built.{IsBuilt, GivesItems}
 use Rattle.image_build.specs.code.Layouts.{IsWorkFor, IsLaidOut}

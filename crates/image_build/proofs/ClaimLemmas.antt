@@ -17,13 +17,13 @@ use Rattle.image_defs.specs.declared.image.PortImage.{PortImage}
 use Rattle.image_defs.specs.declared.image.Image.{Image}
 use Rattle.image_defs.specs.Places.{Stands, IsPort, item_slots, task_slot}
 use Rattle.image_defs.specs.Matches.{claims_of, IsClaim, ClaimsIn}
-use Rattle.image_defs.proofs.MatchLemmas.{maps_same}
+use Rattle.image_defs.proofs.lemmas.MatchLemmas.{maps_same}
 use Rattle.plan_defs.specs.declared.plan.Homes.{Homes}
 use Rattle.plan_defs.specs.declared.plan.Plan.{Plan}
 use Rattle.plan_defs.specs.declared.switch.Switch.{Switch}
 use Rattle.plan_defs.specs.Homes.{home_of, ports_of}
 use Rattle.plan_defs.specs.Slots.{slot_of}
-use Rattle.plan_defs.proofs.PortLemmas.{home_port}
+use Rattle.plan_defs.proofs.lemmas.PortLemmas.{home_port}
 use Rattle.image_build.specs.PortItems.{IsAt, ArePortItems}
 use Rattle.image_build.specs.Plans.{IsPlanned}
 use Rattle.image_build.specs.code.Layouts.{AreMadeFor, IsTaskFor, IsBitFor, IsInputFor, IsWorkFor, IsLaidOut}

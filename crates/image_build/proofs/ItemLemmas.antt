@@ -8,12 +8,12 @@ use Rattle.plan_defs.specs.declared.plan.Homes.{Homes}
 use Rattle.plan_defs.specs.declared.plan.Plan.{Plan}
 use Rattle.plan_defs.specs.Homes.{home_of, ports_of}
 use Rattle.plan_defs.specs.Slots.{slot_of}
-use Rattle.plan_defs.proofs.PlanLemmas.{one_at_home}
-use Rattle.plan_defs.proofs.PortLemmas.{home_port}
+use Rattle.plan_defs.proofs.lemmas.PlanLemmas.{one_at_home}
+use Rattle.plan_defs.proofs.lemmas.PortLemmas.{home_port}
 use Rattle.switch_set.specs.declared.order.Placed.{Placed}
 use Rattle.switch_set.specs.Links.{IsSlotList}
 use Rattle.switch_set.specs.Order.{items_of, IsSlotOrder}
-use Rattle.switch_set.proofs.ListLemmas.{listed_none, listed_same, listed_more}
+use Rattle.switch_set.proofs.lemmas.ListLemmas.{listed_none, listed_same, listed_more}
 use Rattle.switch_set.proofs.SwitchLemmas.{item_low, here_is, lower, kept, added, old_or}
 use Rattle.image_defs.specs.Matches.{claims_of}
 use Rattle.image_build.specs.PortItems.{IsAt, ArePlanClaims}

@@ -19,7 +19,7 @@ use Rattle.plan_defs.specs.Homes.{home_of, ports_of}
 use Rattle.plan_defs.specs.Readers.{IsReader}
 use Rattle.plan_defs.specs.Slots.{slot_of}
 use Rattle.plan_defs.specs.Switches.{IsSendingOf, IsSent, IsReceiptOf, IsSwitch}
-use Rattle.plan_defs.proofs.PortLemmas.{home_port, reader_port}
+use Rattle.plan_defs.proofs.lemmas.PortLemmas.{home_port, reader_port}
 use Rattle.image_build.specs.Plans.{IsPlanned}
 use Rattle.image_build.specs.Built.{link_out, link_in}
 use Rattle.image_build.specs.code.Layouts.{IsLaidOut}

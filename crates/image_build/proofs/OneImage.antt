@@ -32,13 +32,13 @@ use Rattle.image_defs.specs.declared.image.Image.{Image}
 use Rattle.image_defs.specs.Places as places
 use Rattle.image_defs.specs.Places.{Each, IsPort, item_slots, printed_of, task_slot}
 use Rattle.image_defs.specs.WellFormed.{IsWork}
-use Rattle.image_defs.proofs.PlaceLemmas.{rises, place_found}
+use Rattle.image_defs.proofs.lemmas.PlaceLemmas.{rises, place_found}
 use Rattle.image_defs.specs.Matches.{claims_of, IsClaim, Carries, TaskImplements, Implements, BitImplements, InputImplements, Matches}
 use Rattle.plan_defs.specs.declared.plan.Homes.{Homes}
 use Rattle.plan_defs.specs.Homes.{block_home, host_of, ports_of}
 use Rattle.plan_defs.specs.Lists.{Lists}
 use Rattle.plan_defs.specs.Slots.{slot_of}
-use Rattle.switch_set.proofs.SameLemmas.{one_lists}
+use Rattle.switch_set.proofs.lemmas.SameLemmas.{one_lists}
 use Rattle.image_build.specs.Built.{Evaluates, AreInOrderOfUse, AreBlocksOf, IsOrdered, ArePortMemories}
 use Rattle.image_build.specs.code.Layouts.{source_of, feed_source, block_for}
 use Rattle.image_build.proofs.MemberLemmas.{made_there}

@@ -23,7 +23,7 @@ use Rattle.image_defs.specs.declared.image.PortImage.{PortImage}
 use Rattle.image_defs.specs.declared.image.Image.{Image}
 use Rattle.image_defs.specs.Places.{Each, IsPort, item_slots, task_slot, sender_in}
 use Rattle.image_defs.specs.WellFormed.{IsThere, IsPast, IsTask, IsBlock, IsWellFormed}
-use Rattle.image_defs.proofs.PlaceLemmas.{sender_found}
+use Rattle.image_defs.proofs.lemmas.PlaceLemmas.{sender_found}
 use Rattle.image_defs.specs.Matches.{claims_of, ClaimsIn, Carries, CarryAll, MemoryImplements, TaskImplements, is_last}
 use Rattle.plan_defs.specs.declared.plan.Homes.{Homes}
 use Rattle.plan_defs.specs.Homes.{home_of, ports_of}

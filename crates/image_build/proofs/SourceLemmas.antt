@@ -19,7 +19,7 @@ use Rattle.image_defs.specs.declared.image.PortImage.{PortImage}
 use Rattle.image_defs.specs.declared.image.Image.{Image}
 use Rattle.image_defs.specs.Places.{Stands, IsPort, in_slots, sender_in}
 use Rattle.image_defs.specs.WellFormed.{IsThere, IsBefore, IsOfLast, IsOperand, IsPast, IsPresent}
-use Rattle.image_defs.proofs.PlaceLemmas.{sender_found}
+use Rattle.image_defs.proofs.lemmas.PlaceLemmas.{sender_found}
 use Rattle.image_defs.specs.Matches.{ClaimsIn, is_last, Carries}
 use Rattle.plan_defs.specs.declared.plan.Homes.{Homes}
 use Rattle.plan_defs.specs.declared.plan.Plan.{Plan}
@@ -30,7 +30,7 @@ use Rattle.plan_defs.specs.Homes.{home_of, ports_of}
 use Rattle.plan_defs.specs.Readers.{IsUser, IsReader}
 use Rattle.plan_defs.specs.Slots.{slot_of}
 use Rattle.plan_defs.specs.Switches.{IsReceiptOf, IsSwitch}
-use Rattle.plan_defs.proofs.PortLemmas.{user_port}
+use Rattle.plan_defs.proofs.lemmas.PortLemmas.{user_port}
 use Rattle.image_build.specs.Plans.{IsPlanned}
 use Rattle.image_build.specs.Built.{link_in}
 use Rattle.image_build.specs.code.Layouts.{source_of, feed_source, IsLaidOut}

@@ -15,8 +15,8 @@ use Rattle.image_defs.specs.Claimed.{lists_of, HasClaims, HasTiming, PlaceMatche
 use Rattle.image_check.specs.code.Differences.{IsFirstSlot}
 use Rattle.image_check.proofs.FirstLemmas.{all_match, first_place_at}
 use Rattle.image_check.proofs.FormKnown.{form_known, stands_known}
-use Rattle.image_check.proofs.KnownLemmas.{known_some, first_or_all}
-use Rattle.image_check.proofs.MatchKnown.{place_known, column_known, timing_known}
+use Rattle.image_check.proofs.lemmas.KnownLemmas.{known_some, first_or_all}
+use Rattle.image_check.proofs.lemmas.MatchKnown.{place_known, column_known, timing_known}
 
 module _ (file : ImageFile) (nodes : NodeNet) (timing : Timing) where
   -- what stands in a slot of a port

@@ -24,7 +24,7 @@ use Rattle.image_check.specs.code.Differences.{AsClaimed, AllAsClaimed, IsFirstO
 use Rattle.image_check.specs.code.OnePorts.{IsOnePort, AreLaidOut, CarriesAt}
 use Rattle.image_check.specs.code.Shapes.{IsShapeOf}
 use Rattle.image_check.proofs.ClaimLemmas.{claims_there}
-use Rattle.image_check.proofs.EachLemmas.{EachAtBelow, each_at_more}
+use Rattle.image_check.proofs.lemmas.EachLemmas.{EachAtBelow, each_at_more}
 use Rattle.image_check.proofs.SearchLemmas.{rises_far}
 use Rattle.image_check.proofs.ShapeLemmas.{shape_found}
 

@@ -18,7 +18,7 @@ use Rattle.image_defs.specs.declared.image.PortImage.{PortImage}
 use Rattle.image_defs.specs.declared.image.Image.{Image}
 use Rattle.image_defs.specs.Places.{Each, Stands, item_slots, in_slots, out_slots, IsPort}
 use Rattle.image_defs.specs.WellFormed.{IsThere, IsBefore, IsOfLast, IsOperand, IsPast, IsPresent, IsTask, IsBlock, IsBit, IsWork, IsHost, ReceivesFrom, IsLinkOut, IsLinkIn, IsPortImage, IsWellFormed}
-use Rattle.image_check.proofs.KnownLemmas.{IsKnown, known_both, known_then, known_not, known_same, known_less, known_most, known_bool, known_some, known_all, known_member, known_each}
+use Rattle.image_check.proofs.lemmas.KnownLemmas.{IsKnown, known_both, known_then, known_not, known_same, known_less, known_most, known_bool, known_some, known_all, known_member, known_each}
 
 -- ---- lists
 

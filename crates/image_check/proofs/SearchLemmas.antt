@@ -9,7 +9,7 @@ use Rattle.std.proofs.lemmas.Option.{slice_get_within, slice_get-get_or, get_or_
 use Rattle.list_laws.proofs.Members.{mapped_at}
 use Rattle.image_defs.specs.declared.image.LinkIn.{LinkIn}
 use Rattle.image_defs.specs.Places.{Stands, in_slots, sender_in}
-use Rattle.image_defs.proofs.PlaceLemmas.{rises, sender_found}
+use Rattle.image_defs.proofs.lemmas.PlaceLemmas.{rises, sender_found}
 
 -- numbers that rise don't fall from one place to a later one
 pub rises_far : (xs : List ℕ) → IsStrictlyIncreasing xs → (i j : ℕ) → i ≤ j → j < length xs → get_or xs i 0 ≤ get_or xs j 0

@@ -6,7 +6,7 @@ use Rattle.list_laws.proofs.Places.{one_there, indexed}
 use Rattle.image_defs.specs.declared.image.PortImage.{PortImage}
 use Rattle.image_check.specs.declared.shapes.Shape.{Shape}
 use Rattle.image_check.specs.code.Shapes.{IsShapeOf, AreShapesOf}
-use Rattle.image_check.proofs.EachLemmas.{each_pushed}
+use Rattle.image_check.proofs.lemmas.EachLemmas.{each_pushed}
 
 -- the slots of the first n ports
 abbrev pub ShapesBelow : List PortImage → ℕ → List Shape → Type 0

@@ -1,5 +1,3 @@
 pub mod Example
+pub mod lemmas
 mod MatchExample
-pub mod MatchLemmas
-pub mod PlaceLemmas
-pub mod ValueLemmas

@@ -10,7 +10,7 @@ use Rattle.image_lines.specs.declared.line.LineNo.{LineNo}
 use Rattle.image_lines.specs.Forms.{line_read}
 use Rattle.image_lines.specs.Ranges.{IsInRange}
 use Rattle.image_lines.specs.Words.{line_text, line_bytes}
-use Rattle.image_lines.proofs.LawLemmas.{read_only}
+use Rattle.image_lines.proofs.lemmas.LawLemmas.{read_only}
 use Rattle.image_file.specs.declared.refusal.ImageNo.{ImageNo}
 use Rattle.image_file.specs.declared.refusal.ImageNo.TheVariants.{Syntax, Range}
 use Rattle.image_file.specs.declared.draft.Draft.{Draft}

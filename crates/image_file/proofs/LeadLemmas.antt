@@ -26,7 +26,7 @@ use Rattle.image_lines.specs.declared.line.Line.TheVariants as line
 use Rattle.image_lines.specs.Forms.{line_read}
 use Rattle.image_lines.specs.Ranges.{IsInRange}
 use Rattle.image_lines.specs.Words.{line_text, line_bytes}
-use Rattle.image_lines.proofs.LawLemmas.{read_again, line_lacks}
+use Rattle.image_lines.proofs.lemmas.LawLemmas.{read_again, line_lacks}
 use Rattle.image_file.specs.declared.draft.OpenPort.{OpenPort}
 use Rattle.image_file.specs.declared.draft.Draft.{Draft}
 use Rattle.image_file.specs.declared.draft.Draft.TheVariants.{Within}

@@ -5,7 +5,7 @@ use Rattle.std.specs.List.{join_with_byte}
 use Rattle.text_lines.specs.Answers.{AnswersAs}
 use Rattle.text_lines.specs.Bytes.{is_line_feed, cut_at}
 use Rattle.image_lines.specs.Forms.{line_read}
-use Rattle.image_lines.proofs.SplitLemmas.{cut_some, cut_none}
+use Rattle.image_lines.proofs.lemmas.SplitLemmas.{cut_some, cut_none}
 use Rattle.image_file.specs.declared.refusal.ImageNo.{ImageNo}
 use Rattle.image_file.specs.declared.draft.Draft.{Draft}
 use Rattle.image_file.specs.Reading.{pieces_of, after_line, at_end, read_from}

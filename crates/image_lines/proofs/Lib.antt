@@ -1,8 +1,7 @@
 pub mod FieldLemmas
-pub mod SplitLemmas
 pub mod HexLemmas
-pub mod TokenLemmas
-pub mod ReaderLemmas
+pub mod lemmas
 pub mod LineLemmas
-pub mod LawLemmas
+pub mod ReaderLemmas
+pub mod TokenLemmas
 pub mod WritingLemmas

@@ -8,7 +8,7 @@ use Rattle.std.proofs.lemmas.List.Elements.{All-nil, All-cons, All-head, All-tai
 use Rattle.std.proofs.Math.Seq.{take-append_seam, drop-append_seam}
 use Rattle.list_laws.proofs.Options.{one_some}
 use Rattle.image_defs.specs.declared.image.Source.{Source}
-use Rattle.image_defs.proofs.PlaceLemmas.{same_number}
+use Rattle.image_defs.proofs.lemmas.PlaceLemmas.{same_number}
 use Rattle.image_lines.specs.declared.line.Line.{Line}
 use Rattle.image_lines.specs.declared.line.Line.TheVariants.{Table, Block, Send}
 use Rattle.image_lines.specs.declared.word.Word.{Word}

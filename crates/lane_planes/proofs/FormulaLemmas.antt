@@ -8,12 +8,12 @@ use Rattle.logic_four.specs.declared.V4.{V4}
 use Rattle.logic_four.specs.declared.Kind.{Kind}
 use Rattle.logic_four.specs.declared.Kind.TheVariants.{And, Nand, Or, Nor, Xor, Xnor, Not, Buf, Tri, Bus}
 use Rattle.logic_four.specs.Gates.{gate_value}
-use Rattle.logic_four.proofs.TestLemmas.{two_same}
+use Rattle.logic_four.proofs.lemmas.TestLemmas.{two_same}
 use Rattle.lane_planes.specs.declared.planes.Planes.{Planes}
 use Rattle.lane_planes.specs.Lanes.{lane_of}
 use Rattle.lane_planes.specs.Joins.{first_of, join_of, answer_of}
 use Rattle.lane_planes.proofs.WordLemmas.{Word, low_word, high_word, both, either, differ, apart, all_ones, no_ones}
-use Rattle.lane_planes.proofs.LaneLemmas.{bits, in_lanes}
+use Rattle.lane_planes.proofs.lemmas.LaneLemmas.{bits, in_lanes}
 use Rattle.lane_planes.specs.code.Formula.{is_usual}
 use Rattle.lane_planes.specs.Formula.{turns_operands, turns_answer, is_parity, mask_of}
 

@@ -8,8 +8,8 @@ use Rattle.logic_four.specs.declared.Kind.TheVariants.{And, Nand, Or, Nor, Xor, 
 use Rattle.logic_four.specs.Gates.{gate_value}
 use Rattle.logic_four.specs.Kinds.{AllowsOperands}
 use Rattle.logic_four.specs.Folds.{takes_many, base_kind}
-use Rattle.logic_four.proofs.FoldLemmas.{front}
-use Rattle.logic_four.proofs.KindLemmas.{some_operands}
+use Rattle.logic_four.proofs.lemmas.FoldLemmas.{front}
+use Rattle.logic_four.proofs.lemmas.KindLemmas.{some_operands}
 use Rattle.lane_planes.specs.Joins.{first_of, join_of, answer_of, JoinsOneByOne}
 
 -- a gate of one operand

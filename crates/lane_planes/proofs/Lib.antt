@@ -1,5 +1,4 @@
-pub mod WordLemmas
-pub mod LaneLemmas
-pub mod JoinLemmas
 pub mod FormulaLemmas
-pub mod BitLemmas
+pub mod JoinLemmas
+pub mod lemmas
+pub mod WordLemmas

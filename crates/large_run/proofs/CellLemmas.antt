@@ -6,8 +6,8 @@ use Rattle.std.proofs.lemmas.List.{length-append, length-map, ext_get_or}
 use Rattle.std.proofs.lemmas.List.Sums.{sum_by-cons}
 use Rattle.std.proofs.lemmas.Option.{slice_get_within}
 use Rattle.image_defs.specs.declared.image.Image.{Image}
-use Rattle.large_gen.specs.Summaries.{counts_of, is_zero, is_one, is_undefined, is_high_impedance}
-use Rattle.large_gen.proofs.SummaryLemmas.{total}
+use Rattle.large_run.specs.Summaries.{counts_of, is_zero, is_one, is_undefined, is_high_impedance}
+use Rattle.large_run.proofs.SummaryLemmas.{total}
 use Rattle.list_laws.proofs.Maps.{flat_map_at}
 use Rattle.logic_four.specs.declared.V4.{V4}
 use Rattle.logic_four.specs.declared.V4.TheVariants.{Zero, One, Undef, HighZ}

@@ -7,11 +7,11 @@ use Rattle.std.proofs.lemmas.List.Sums.{sum_by-append}
 use Rattle.std.proofs.lemmas.List.FromFn.{length-map-range_with_len}
 use Rattle.image_defs.specs.declared.image.PortImage.{PortImage}
 use Rattle.image_defs.specs.Places.{host_of}
-use Rattle.large_gen.specs.declared.summary.Summary.{Summary}
-use Rattle.large_gen.specs.Draws.{draw}
-use Rattle.large_gen.specs.Summaries.{counts_of, summary_text}
-use Rattle.large_gen.specs.Large.{gate_driver, gate_signal, gate_state, head_count, input_signal, kind_at, kind_number, large_netlist, large_signals, operands, operand_count, large_printed}
-use Rattle.large_gen.proofs.ValidLemmas.{not_input}
+use Rattle.large_run.specs.declared.summary.Summary.{Summary}
+use Rattle.large_run.specs.Draws.{draw}
+use Rattle.large_run.specs.Summaries.{counts_of, summary_text}
+use Rattle.large_run.specs.Large.{gate_driver, gate_signal, gate_state, head_count, input_signal, kind_at, kind_number, large_netlist, large_signals, operands, operand_count, large_printed}
+use Rattle.large_run.proofs.ValidLemmas.{not_input}
 use Rattle.list_laws.proofs.Maps.{sum_none_of}
 use Rattle.list_laws.proofs.Members.{member_at}
 use Rattle.logic_four.specs.declared.V4.{V4}

@@ -4,8 +4,8 @@ use Rattle.limits.specs.declared.TheConstants.{MAX_LARGE_GATES}
 use Rattle.std.specs.Prelude.{Option, Some, None, slice_get}
 use Rattle.std.proofs.lemmas.Option.{slice_get_within, get_or_from_slice_get}
 use Rattle.list_laws.proofs.Members.{member_at}
-use Rattle.large_gen.specs.Large.{large_netlist, large_signals}
-use Rattle.large_gen.proofs.ValidLemmas.{large_counts, length-large}
+use Rattle.large_run.specs.Large.{large_netlist, large_signals}
+use Rattle.large_run.proofs.ValidLemmas.{large_counts, length-large}
 use Rattle.func_table.specs.declared.table.Table.{Table}
 use Rattle.net_defs.specs.declared.netlist.Driver.{Driver}
 use Rattle.net_defs.specs.declared.netlist.Driver.TheVariants as driver
@@ -20,9 +20,9 @@ use Rattle.node_defs.specs.declared.items.NodeNet.{NodeNet}
 use Rattle.node_defs.specs.Groups.{helper_count}
 use Rattle.node_defs.specs.Items.{IsItemOf}
 use Rattle.node_defs.specs.Order.{AreItems}
-use Rattle.node_defs.proofs.NameLemmas.{name_at, name_there, name_same, NamedItem, named_item}
-use Rattle.node_map.proofs.ShapeLemmas.{narrow_groups}
-use Rattle.plan_defs.proofs.CountLemmas.{few_partners}
+use Rattle.node_defs.proofs.lemmas.NameLemmas.{name_at, name_there, name_same, NamedItem, named_item}
+use Rattle.node_map.proofs.lemmas.ShapeLemmas.{narrow_groups}
+use Rattle.plan_defs.proofs.lemmas.CountLemmas.{few_partners}
 
 -- a narrow driver gives its signal one item, which stands for the signal itself
 alone : (names : List ItemName) (tables : List Table) (late : Bool) (s : ℕ) (d : Driver) (helper : Option ℕ) (item : Item) → operand_count d ≤ 4

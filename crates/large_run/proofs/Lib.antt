@@ -1,6 +1,10 @@
 pub mod CellLemmas
 pub mod DesignLemmas
+pub mod DrawLemmas
+pub mod Example
 pub mod ItemLemmas
 pub mod OneLemmas
 pub mod SettingLemmas
+pub mod SummaryLemmas
 pub mod TableLemmas
+pub mod ValidLemmas

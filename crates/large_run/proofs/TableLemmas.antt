@@ -10,7 +10,7 @@ use Rattle.logic_four.specs.declared.Kind.{Kind}
 use Rattle.logic_four.specs.declared.Kind.TheVariants.{And, Nand, Or, Nor, Xor, Xnor, Not, Buf, Tri, Bus}
 use Rattle.logic_four.specs.Folds.{base_kind}
 use Rattle.logic_four.specs.Kinds.{AllowsOperands}
-use Rattle.logic_four.proofs.KindLemmas.{some_operands}
+use Rattle.logic_four.proofs.lemmas.KindLemmas.{some_operands}
 use Rattle.func_table.specs.declared.table.Table.{Table}
 use Rattle.func_table.specs.Entries.{AreAlike, IsTableOf}
 pub use Rattle.func_table.proofs.EntryLemmas.{same_entries}
@@ -28,14 +28,14 @@ use Rattle.node_defs.specs.declared.items.NodeNet.{NodeNet}
 use Rattle.node_defs.specs.Groups.{groups, group_at, helper_count}
 use Rattle.node_defs.specs.Items.{IsItemOf, IsNode}
 use Rattle.node_defs.specs.Order.{AreItems}
-use Rattle.node_defs.proofs.EarlierLemmas.{table_there}
-use Rattle.node_defs.proofs.NameLemmas.{name_at, named_item}
+use Rattle.node_defs.proofs.lemmas.EarlierLemmas.{table_there}
+use Rattle.node_defs.proofs.lemmas.NameLemmas.{name_at, named_item}
 use Rattle.node_map.specs.code.Nodes.{node_kind}
 use Rattle.node_map.proofs.MadeNodeLemmas.{kind_allowed}
-use Rattle.node_map.proofs.ShapeLemmas.{group_few, some_groups}
+use Rattle.node_map.proofs.lemmas.ShapeLemmas.{group_few, some_groups}
 use Rattle.plan_defs.specs.declared.plan.Homes.{Homes}
 use Rattle.plan_defs.specs.Tables.{UsesTable, UsesTables}
-use Rattle.plan_defs.proofs.CountLemmas.{few_below, few_partners}
+use Rattle.plan_defs.proofs.lemmas.CountLemmas.{few_below, few_partners}
 
 -- ---- the kinds of tables
 

@@ -1,9 +1,9 @@
 -- The summary of the run of a large netlist.
 use Rattle.std.specs.Prelude.{◌≡◌, ℕ, ◌+◌, ◌-◌, List, length}
 use Rattle.std.specs.List.{flat_map, range_with_len}
-use Rattle.large_gen.specs.declared.summary.Summary.{Summary}
-use Rattle.large_gen.specs.Large.{gate_state, large_netlist, large_stimulus}
-use Rattle.large_gen.specs.Summaries.{counts_of, summary_text}
+use Rattle.large_run.specs.declared.summary.Summary.{Summary}
+use Rattle.large_run.specs.Large.{gate_state, large_netlist, large_stimulus}
+use Rattle.large_run.specs.Summaries.{counts_of, summary_text}
 use Rattle.logic_four.specs.declared.V4.{V4}
 use Rattle.net_defs.specs.declared.netlist.Netlist.{Netlist}
 use Rattle.net_defs.specs.declared.timing.Timing.{Timing}

@@ -1,2 +1,3 @@
 pub mod Designs
 pub mod Rows
+pub mod Summaries

@@ -1,11 +1,11 @@
 //! The printed cells of a run, counted by value.
 
 ghost use Rattle.std.specs.Prelude.{◌≡◌, ◌<◌, ◌^◌, IfOk, length};
-ghost use Rattle.large_gen.specs.Summaries.{counts_of};
-ghost use Rattle.large_gen.specs.Summaries.{summary_text as text_of};
+ghost use Rattle.large_run.specs.Summaries.{counts_of};
+ghost use Rattle.large_run.specs.Summaries.{summary_text as text_of};
 ghost use Rattle.large_run.specs.code.Rows.{cells_in};
 
-use large_gen::{CellCounts, Summary, summary_text};
+use crate::{CellCounts, Summary, summary_text};
 use net_defs::CellRow;
 use seen_list::{Memory, Text};
 use std::alloc::Global;

@@ -2,7 +2,7 @@
 
 ghost use Rattle.std.specs.Prelude.{◌≡◌, ◌≤◌, IfOk};
 ghost use Rattle.limits.specs.declared.TheConstants.{MAX_LARGE_CYCLES, MAX_LARGE_GATES};
-ghost use Rattle.large_gen.specs.Large.{large_netlist};
+ghost use Rattle.large_run.specs.Large.{large_netlist};
 ghost use Rattle.net_defs.specs.declared.stimulus.Stimulus.{Stimulus as Rows};
 ghost use Rattle.net_defs.specs.Valid.{IsValid};
 ghost use Rattle.yse_compile.specs.Compiled.{IsCompiled, ShowsReference};
@@ -13,7 +13,7 @@ ghost use Rattle.large_run.specs.Setting.{large_machine as machine_is, large_tim
 
 use crate::law::large_fits;
 use crate::machine::{large_machine, large_timing};
-use large_gen::{CellCounts, Summary, large_net, large_rows};
+use crate::{CellCounts, Summary, large_net, large_rows};
 use net_defs::{Netlist, Stimulus};
 use plan_defs::law::items_are_well_formed;
 use plan_text::crossings;

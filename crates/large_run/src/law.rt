@@ -2,7 +2,7 @@
 
 ghost use Rattle.std.specs.Prelude.{◌≡◌, ◌+◌, ◌<◌, ◌≤◌, ℕ, List, length};
 ghost use Rattle.limits.specs.declared.TheConstants.{MAX_LARGE_GATES};
-ghost use Rattle.large_gen.specs.Large.{large_netlist};
+ghost use Rattle.large_run.specs.Large.{large_netlist};
 ghost use Rattle.machine_text.specs.declared.machine.Machine.{Machine};
 ghost use Rattle.net_defs.specs.declared.netlist.Netlist.{Netlist};
 ghost use Rattle.net_defs.specs.declared.timing.Timing.{Timing};

@@ -4,7 +4,7 @@ use Rattle.std.proofs.lemmas.Bool.{cases_eq, cases_lt}
 use Rattle.std.proofs.lemmas.List.{length-set, length_push}
 use Rattle.std.proofs.lemmas.Option.{slice_get_within}
 use Rattle.list_laws.proofs.Places.{at_front, one_there, seam_at}
-use Rattle.crew_run.proofs.Places.{each_push, member_at, one_some, set_other, set_same}
+use Rattle.crew_run.proofs.lemmas.Places.{each_push, member_at, one_some, set_other, set_same}
 use Rattle.crew_run.specs.declared.worker.Worker.{Worker}
 use Rattle.machine_run.specs.Dealt.{AreDealtFrom, ArePasses, HasPortOf, IsDealtFrom, IsMember}
 use Rattle.machine_run.specs.code.Dealt.{AreIdle, HasGained}

@@ -20,8 +20,8 @@ use Rattle.machine_run.specs.declared.crew.Crew.TheInside.{Inside}
 use Rattle.machine_run.proofs.BlockLemmas.{can_go_on, dealt_at_end, dealt_in_next}
 use Rattle.machine_run.proofs.CrewLemmas.{made_few, made_more, turns_few}
 use Rattle.machine_run.proofs.MoveLemmas.{have_ended}
-use Rattle.machine_run.proofs.RoomLemmas.{can_tell_on}
-use Rattle.machine_run.proofs.VisitLemmas.{can_run, have_visits, in_place}
+use Rattle.machine_run.proofs.lemmas.RoomLemmas.{can_tell_on}
+use Rattle.machine_run.proofs.lemmas.VisitLemmas.{can_run, have_visits, in_place}
 
 -- what was lent and given back stands in the place of what was there
 pub back : {X : Type 0} (xs xs' : List X) → length xs' ≡ length xs → take (length xs) (xs' ++ drop (length xs') xs) ≡ xs'

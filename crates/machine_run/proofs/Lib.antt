@@ -4,12 +4,9 @@ pub mod DealtLemmas
 pub mod GateLemmas
 pub mod HostLemmas
 pub mod KeptLemmas
-pub mod LinesLemmas
+pub mod lemmas
 pub mod MoveLemmas
-pub mod RoomLemmas
 pub mod RowLemmas
 pub mod RunLemmas
-pub mod TurnLemmas
-pub mod VisitLemmas
 pub mod WholeLemmas
 pub mod WindowLemmas

@@ -3,7 +3,7 @@ use Rattle.std.proofs.Common.{List, Option, Some, ap, arith, inl, inr, length, r
 use Rattle.std.proofs.lemmas.Bool.{cases_eq}
 use Rattle.std.proofs.lemmas.List.{length-set}
 use Rattle.std.proofs.lemmas.Option.{slice_get_within}
-use Rattle.crew_run.proofs.Places.{beside, member_at, one_some, set_other, set_same}
+use Rattle.crew_run.proofs.lemmas.Places.{beside, member_at, one_some, set_other, set_same}
 use Rattle.crew_run.specs.Crews.{HasRun}
 use Rattle.crew_run.specs.Lending.{AllHaveRunWith, lent}
 use Rattle.crew_run.specs.code.Phases.{Each}

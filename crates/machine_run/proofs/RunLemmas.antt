@@ -3,12 +3,12 @@ use Rattle.std.proofs.Common.{Err, List, Ok, Option, Result, ap, arith, length, 
 use Rattle.std.proofs.Math.Nat.{mul-le-mul_left, mul-zero}
 use Rattle.std.specs.Io.KnownBytes.{append_known}
 use Rattle.crew_run.specs.declared.gate.Gate as gate
-use Rattle.edge_io.proofs.Taking.{append_known-append}
-use Rattle.edge_io.proofs.WritingLemmas.{append_known-nil}
+use Rattle.edge_io.proofs.lemmas.Taking.{append_known-append}
+use Rattle.edge_io.proofs.lemmas.WritingLemmas.{append_known-nil}
 use Rattle.edge_io.specs.Writing.{Takes, TakesProperPrefix}
 use Rattle.edge_io.specs.declared.writing.WriteNo.{WriteNo}
 use Rattle.image_defs.specs.declared.image.Image.{Image}
-use Rattle.machine_run.proofs.TurnLemmas.{in_place_none, in_place_on, visits_none, visits_on}
+use Rattle.machine_run.proofs.lemmas.TurnLemmas.{in_place_none, in_place_on, visits_none, visits_on}
 use Rattle.machine_run.specs.Crews.{CrewView, at_block_end, at_first, in_next_block, rows_at_end, turns_left, turns_made}
 use Rattle.machine_run.specs.Visits.{AllCanTellTurns, AreInPlace, AreVisitsBetween, AreVisitsOf}
 use Rattle.net_defs.specs.Time.{cycle_count}

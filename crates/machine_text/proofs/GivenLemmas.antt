@@ -4,7 +4,7 @@ use Rattle.std.specs.List.{list_any, filter_map, cons_option}
 use Rattle.std.proofs.lemmas.List.{take_more, take_all}
 use Rattle.std.proofs.lemmas.List.Elements.{filter_map-append}
 use Rattle.text_lines.specs.Answers.{first}
-use Rattle.text_lines.proofs.AnswerLemmas.{first-zero, first_none_more, first_some}
+use Rattle.text_lines.proofs.lemmas.AnswerLemmas.{first-zero, first_none_more, first_some}
 use Rattle.machine_text.specs.declared.given.Given.{Given}
 use Rattle.machine_text.specs.declared.machine.Limited.{Limited}
 use Rattle.machine_text.specs.declared.machine.Limited.TheVariants.{Functions, Nodes, Bits}

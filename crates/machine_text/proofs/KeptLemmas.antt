@@ -5,7 +5,8 @@ use Rattle.std.proofs.lemmas.List.{take_more, take_all}
 use Rattle.std.proofs.lemmas.List.Elements.{filter_map-append}
 use Rattle.text_lines.specs.Answers.{first}
 use Rattle.text_lines.specs.code.Answers.{fault_or}
-use Rattle.text_lines.proofs.AnswerLemmas.{fault_or_err, fault_or_ok, first-zero, first_none_more, first_some}
+use Rattle.text_lines.proofs.lemmas.AnswerLemmas.{first-zero, first_none_more, first_some}
+use Rattle.text_lines.proofs.FaultLemmas.{fault_or_err, fault_or_ok}
 use Rattle.machine_text.specs.declared.machine.MachNo.{MachNo}
 use Rattle.machine_text.specs.declared.machine.PortLimit.{PortLimit}
 use Rattle.machine_text.specs.declared.saying.Says.{Says}

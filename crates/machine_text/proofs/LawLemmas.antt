@@ -10,7 +10,7 @@ use Rattle.std.proofs.lemmas.List.Elements.{All-from_recursion, All-from_get_or,
 use Rattle.std.proofs.lemmas.List.Folds.{list_any_none}
 use Rattle.std.proofs.lemmas.List.Kept.{AllPairs-cons}
 use Rattle.text_lines.specs.Answers.{first}
-use Rattle.text_lines.proofs.AnswerLemmas.{first_none, none_below, or_none}
+use Rattle.text_lines.proofs.lemmas.AnswerLemmas.{first_none, none_below, or_none}
 use Rattle.machine_text.specs.declared.quantity.Quantity.{Quantity}
 use Rattle.machine_text.specs.declared.quantity.Quantity.TheVariants.{Logic, Array, Slots, Functions, Bits, Nodes}
 use Rattle.machine_text.specs.declared.saying.Setting.{Setting}

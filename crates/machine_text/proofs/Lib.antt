@@ -2,6 +2,6 @@ pub mod DigitLemmas
 mod GivenLemmas
 mod KeptLemmas
 mod LawLemmas
-pub mod LimitLemmas
+pub mod lemmas
 mod SayingLemmas
 mod VersionLemmas

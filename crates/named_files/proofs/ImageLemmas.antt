@@ -8,7 +8,7 @@ use Rattle.net_defs.specs.Valid.{input_count}
 use Rattle.node_defs.specs.declared.items.NodeNet.{NodeNet}
 use Rattle.node_defs.specs.Order.{AreItems}
 use Rattle.node_defs.specs.WellFormed.{column_count}
-use Rattle.node_defs.proofs.MemberLemmas.{member_at}
+use Rattle.node_defs.proofs.lemmas.MemberLemmas.{member_at}
 use Rattle.image_defs.specs.declared.image.PortImage.{PortImage}
 use Rattle.image_defs.specs.Places.{host_of}
 use Rattle.image_defs.specs.WellFormed.{IsWellFormed}

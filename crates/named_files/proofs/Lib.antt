@@ -1,7 +1,6 @@
 mod ImageLemmas
+pub mod lemmas
 pub mod PassingLemmas
-pub mod ReadingLemmas
 mod RefusedLemmas
 mod SizeLemmas
 mod TextLemmas
-pub mod WeakerLemmas

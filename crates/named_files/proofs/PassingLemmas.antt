@@ -9,8 +9,8 @@ use Rattle.named_files.specs.Passing.{Continuation, Never, Only, Passes, Steps}
 use Rattle.named_files.specs.Readings.{Reading, AreReadings}
 use Rattle.named_files.specs.code.Texts.{AnswersText, GivesText}
 use Rattle.named_files.specs.Refused.{Satisfies, refused_of}
-use Rattle.named_files.proofs.ReadingLemmas.{no_readings, readings_both}
-use Rattle.named_files.proofs.WeakerLemmas.{Implies}
+use Rattle.named_files.proofs.lemmas.ReadingLemmas.{no_readings, readings_both}
+use Rattle.named_files.proofs.lemmas.WeakerLemmas.{Implies}
 
 -- what is met after this value alone
 pub only_so : {X : Type 0} (x : X) (rest : List Reading) (outcome : Outcome) (Next : Continuation X) → Next x rest outcome → (y : X) → Implies (Only x rest outcome y) (Next y)

@@ -16,7 +16,7 @@ use Rattle.named_files.specs.Outcome.{refusal, out_of_memory}
 use Rattle.named_files.specs.Readings.{AreReadings}
 use Rattle.named_files.specs.code.Texts.{GivesText}
 use Rattle.named_files.specs.Refused.{refused_of}
-use Rattle.named_files.proofs.ReadingLemmas.{one_reading}
+use Rattle.named_files.proofs.lemmas.ReadingLemmas.{one_reading}
 
 -- the text of a file of at most so many bytes, and the refusal of a longer one
 fits : (file bytes : List ℕ) → length bytes ≤ MAX_TEXT_BYTES → text_of file bytes ≡ Ok bytes

@@ -22,7 +22,7 @@ use Rattle.net_ops.specs.code.Places.{last_row}
 use Rattle.net_ops.specs.code.Rams.{ReadsWithin, act_over}
 use Rattle.net_ops.specs.code.States.{output_value, is_driven_below, is_answered, Answers}
 use Rattle.net_ops.specs.code.Values.{IsStagedTo, Puts}
-use Rattle.net_ops.proofs.Waits.{map_same}
+use Rattle.net_ops.proofs.lemmas.Waits.{map_same}
 
 -- the value that a signal had in the last turn
 pub last_value : (net : Netlist) (values : List V4) (s : ℕ) → s < length net.signals → value_at (last_row net values) s ≡ value_at values (length net.signals + s)

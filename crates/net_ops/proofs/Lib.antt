@@ -2,14 +2,13 @@ mod AnswerLemmas
 mod AssignLemmas
 mod BaseLemmas
 mod LaneLemmas
+pub mod lemmas
 mod Memories
 pub mod OpLemmas
 mod RamLemmas
+pub mod Rows
 mod ScheduleLemmas
 mod SequenceLemmas
-mod TurnLemmas
-pub mod Rows
 mod StartLemmas
 pub mod Steps
-pub mod Waits
-pub mod Writes
+mod TurnLemmas

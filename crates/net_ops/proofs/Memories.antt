@@ -13,7 +13,7 @@ use Rattle.net_defs.specs.Steps.{values_of}
 use Rattle.list_laws.proofs.Ranges.{last_or}
 use Rattle.net_ops.specs.States.{AreShaped}
 use Rattle.net_ops.specs.code.States.{WroteMemories}
-use Rattle.net_ops.proofs.Writes.{refill_set}
+use Rattle.net_ops.proofs.lemmas.Writes.{refill_set}
 
 -- a memory of a netlist by its number
 pub memory_here : (net : Netlist) (m : ℕ) (memory : Block) → m < length net.blocks → memory ≡ get_or net.blocks m memory → slice_get net.blocks m ≡ Some memory

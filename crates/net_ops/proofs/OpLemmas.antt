@@ -11,7 +11,7 @@ use Rattle.logic_four.specs.declared.Kind.TheVariants.{And, Nand, Or, Nor, Xor, 
 use Rattle.logic_four.specs.Gates.{gate_value}
 use Rattle.logic_four.specs.Kinds.{AllowsOperands}
 use Rattle.logic_four.specs.Folds.{takes_many, base_kind, lone_kind}
-use Rattle.logic_four.proofs.FoldLemmas.{front}
+use Rattle.logic_four.proofs.lemmas.FoldLemmas.{front}
 use Rattle.net_defs.specs.Time.{value_at}
 use Rattle.net_ops.specs.declared.ops.PairOp.{PairOp}
 use Rattle.net_ops.specs.Lanes.{forced, lane_row}

@@ -9,7 +9,7 @@ use Rattle.net_defs.specs.declared.netlist.Netlist.{Netlist}
 use Rattle.net_defs.specs.declared.netlist.Block.{Block}
 use Rattle.list_laws.proofs.Ranges.{last_or}
 use Rattle.net_ops.proofs.Memories.{memory_here, same_memory}
-use Rattle.net_ops.proofs.Writes.{refill_set}
+use Rattle.net_ops.proofs.lemmas.Writes.{refill_set}
 use Rattle.net_ops.specs.declared.ram.RamPort.{RamPort}
 use Rattle.net_ops.specs.Lanes.{lane_row}
 use Rattle.net_ops.specs.Rams.{FitsPort, ArePorts}

@@ -25,10 +25,10 @@ use Rattle.net_ops.specs.Ops.{do_op, follow, IsWithin}
 use Rattle.net_ops.specs.Places.{place_count}
 use Rattle.net_ops.specs.Schedules.{operand_place, here_driven, here_value, Settles}
 use Rattle.net_ops.specs.code.Sequences.{Adds}
-use Rattle.rank_find.proofs.NumberLemmas.{gate_within}
+use Rattle.rank_find.proofs.lemmas.NumberLemmas.{gate_within}
 use Rattle.net_ops.proofs.OpLemmas.{adds_as}
 use Rattle.net_ops.proofs.ScheduleLemmas.{order_reads}
-use Rattle.net_ops.proofs.Waits.{map_same, late_or, operand_low, waits_here}
+use Rattle.net_ops.proofs.lemmas.Waits.{map_same, late_or, operand_low, waits_here}
 
 -- where the operands of a gate begin, which doesn't read its own place
 pub base_apart : (signals base gate : ℕ) (late : Bool) (operands : List ℕ) → base ≡ (if late then signals else 0) → gate < signals → (late ≡ false → (o : ℕ) → Contains operands o → o ≢ gate)

@@ -8,7 +8,7 @@ use Rattle.logic_four.specs.declared.V4.TheVariants.{Undef}
 use Rattle.logic_four.specs.declared.Kind.{Kind}
 use Rattle.logic_four.specs.Gates.{gate_value}
 use Rattle.logic_four.specs.Memory.{HasShape}
-use Rattle.logic_four.proofs.MemoryLemmas.{shape}
+use Rattle.logic_four.proofs.lemmas.MemoryLemmas.{shape}
 use Rattle.net_defs.specs.declared.netlist.Netlist.{Netlist}
 use Rattle.net_defs.specs.declared.netlist.Signal.{Signal}
 use Rattle.net_defs.specs.declared.netlist.Block.{Block}
@@ -29,7 +29,7 @@ use Rattle.net_ops.specs.States.{AreShaped}
 use Rattle.net_ops.specs.code.States.{driven_by, words_by_phase, Assigns, HasHeld, HasSources, StepsBy, WordsBy}
 use Rattle.net_ops.specs.code.Values.{Keeps}
 use Rattle.net_ops.proofs.AnswerLemmas.{last_value}
-use Rattle.net_ops.proofs.Waits.{map_same, late_or, operand_low}
+use Rattle.net_ops.proofs.lemmas.Waits.{map_same, late_or, operand_low}
 
 row_value : (net : Netlist) (values : List V4) (s : ℕ) → s < length net.signals → value_at (row_of net values) s ≡ value_at values s
 row_value net values s low = get_or-take (length net.signals) values s Undef low

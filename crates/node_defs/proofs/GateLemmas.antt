@@ -27,8 +27,8 @@ use Rattle.node_defs.specs.Groups.{groups, group_at, helper_count}
 use Rattle.node_defs.specs.Items.{own, helper_of, IsNamed, IsNode, IsGateItem}
 use Rattle.node_defs.specs.Order.{AreItems}
 use Rattle.node_defs.specs.Values.{IsItemStep, item_value}
-use Rattle.node_defs.proofs.GroupLemmas.{groups_narrow}
-use Rattle.node_defs.proofs.LevelLemmas.{wires, Helps, levels_fold}
+use Rattle.node_defs.proofs.lemmas.GroupLemmas.{groups_narrow}
+use Rattle.node_defs.proofs.lemmas.LevelLemmas.{wires, Helps, levels_fold}
 use Rattle.node_defs.proofs.NodeLemmas.{node_is}
 use Rattle.node_defs.proofs.SeenLemmas.{item_named, item_of_signal, number, number_is, number_named, seen, seen_at}
 

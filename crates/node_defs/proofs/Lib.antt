@@ -1,13 +1,9 @@
-pub mod GroupLemmas
-pub mod MemberLemmas
-pub mod LevelLemmas
-pub mod NameLemmas
-mod NodeLemmas
-pub mod SeenLemmas
-mod GateLemmas
-mod StepLemmas
-mod ReferenceLemmas
 mod ChainLemmas
-pub mod EarlierLemmas
+mod GateLemmas
+pub mod lemmas
+mod NodeLemmas
+mod ReferenceLemmas
 mod RunLemmas
 mod SameLemmas
+pub mod SeenLemmas
+mod StepLemmas

@@ -18,7 +18,7 @@ use Rattle.node_defs.specs.declared.items.ItemName.{ItemName}
 use Rattle.node_defs.specs.Items.{own, helper_of, IsNamed, wire_name, wire_tag, feed_at, IsNode}
 use Rattle.func_table.specs.Entries.{looked_up}
 use Rattle.node_defs.specs.Values.{feed_value}
-use Rattle.node_defs.proofs.LevelLemmas.{wires}
+use Rattle.node_defs.proofs.lemmas.LevelLemmas.{wires}
 
 -- the first values of a list, where each is that of the wire at its place
 pub front : (value : ℕ → V4) (n : ℕ) (xs : List V4) (first : ℕ) → n ≤ length xs

@@ -10,7 +10,7 @@ use Rattle.list_laws.proofs.Options.{one_some}
 use Rattle.logic_four.specs.declared.V4.{V4}
 use Rattle.logic_four.specs.declared.V4.TheVariants.{Undef}
 use Rattle.logic_four.specs.Memory.{initial_words}
-use Rattle.logic_four.proofs.CodeLemmas.{undefined_at}
+use Rattle.logic_four.proofs.lemmas.CodeLemmas.{undefined_at}
 use Rattle.net_defs.specs.declared.netlist.Netlist.{Netlist}
 use Rattle.net_defs.specs.declared.netlist.Signal.{Signal}
 use Rattle.net_defs.specs.declared.netlist.Block.{Block}

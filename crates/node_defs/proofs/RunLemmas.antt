@@ -25,7 +25,7 @@ use Rattle.node_defs.specs.Items.{feed_at}
 use Rattle.node_defs.specs.Order.{AreItems}
 use Rattle.node_defs.specs.Values.{feed_value, item_value, block_words_after, IsItemStep, first_items, HaveOneRun}
 use Rattle.node_defs.proofs.ChainLemmas.{states_to, states_count, states_first, states_step, states_only}
-use Rattle.node_defs.proofs.EarlierLemmas.{earlier}
+use Rattle.node_defs.proofs.lemmas.EarlierLemmas.{earlier}
 
 module _ (net : Netlist) (timing : Timing) (nodes : NodeNet) (are : AreItems net timing nodes) (stimulus : Stimulus) where
   module _ (turn : ℕ) (old : State) where

@@ -35,7 +35,7 @@ use Rattle.func_table.specs.Entries.{looked_up, entry_for}
 use Rattle.func_table.specs.Shelf.{AreDifferent}
 use Rattle.func_table.proofs.EntryLemmas.{same_entries}
 use Rattle.node_defs.proofs.SeenLemmas.{item_named}
-use Rattle.node_defs.proofs.EarlierLemmas.{earlier, table_there}
+use Rattle.node_defs.proofs.lemmas.EarlierLemmas.{earlier, table_there}
 
 -- lists that hold the same at each place
 lists_same : {X : Type 0} (xs ys : List X) → ((k : ℕ) → slice_get xs k ≡ slice_get ys k) → xs ≡ ys

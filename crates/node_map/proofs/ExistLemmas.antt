@@ -45,7 +45,7 @@ use Rattle.node_map.specs.code.Places.{start_of, keys_to, key_cmp, name_of, flat
 use Rattle.node_map.specs.code.Tables.{Keeps}
 use Rattle.node_map.specs.code.Nodes.{IsFeed, AreFeeds, IsNodeAt, node_kind}
 use Rattle.node_map.specs.code.Made.{driver_at, IsMadeItem, AreMade, AreNodeBlocks}
-use Rattle.node_map.proofs.ShapeLemmas.{IsShaped, shaped, some_groups}
+use Rattle.node_map.proofs.lemmas.ShapeLemmas.{IsShaped, shaped, some_groups}
 use Rattle.node_map.proofs.RankLemmas.{OwnTo, own_begun, own_more, own_all}
 use Rattle.node_map.proofs.OrderLemmas.{key_total, made_keys, made_right}
 use Rattle.node_map.proofs.NumberLemmas.{NumbersTo, numbers_begun, numbers_more, numbers_all, are_flat, are_numbered, own_found, helper_found}

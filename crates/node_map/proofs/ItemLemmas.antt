@@ -30,7 +30,7 @@ use Rattle.node_map.specs.code.Tables.{Keeps}
 use Rattle.node_map.specs.code.Nodes.{IsNodeAt, node_kind}
 use Rattle.node_map.specs.code.Made.{driver_at, IsMadeItem, AreMade}
 use Rattle.node_map.proofs.TableLemmas.{get_front, get_last}
-use Rattle.node_map.proofs.ShapeLemmas.{no_groups}
+use Rattle.node_map.proofs.lemmas.ShapeLemmas.{no_groups}
 
 -- ---- numbers of signals
 

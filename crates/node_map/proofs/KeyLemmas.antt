@@ -10,7 +10,7 @@ use Rattle.net_defs.specs.declared.timing.Timing.{Timing}
 use Rattle.node_map.specs.declared.keys.Key.{Key}
 use Rattle.node_map.specs.code.Wires.{operands_of, helpers_at}
 use Rattle.node_map.specs.code.Places.{start_of, key_at, keys_of, keys_to}
-use Rattle.node_map.proofs.ShapeLemmas.{few_groups}
+use Rattle.node_map.proofs.lemmas.ShapeLemmas.{few_groups}
 
 -- what place of what signal stands here
 pub record IsPlaced (net : Netlist) (n i : ℕ) : Type 0 where

@@ -29,7 +29,7 @@ use Rattle.node_map.specs.declared.keys.Key.{Key}
 use Rattle.node_map.specs.code.Wires.{operands_of, helpers_at, class_of_driver, class_at, past_of, most_of, pasts_to, pasts_of, rank_at, AreOwnRanks}
 use Rattle.node_map.specs.code.Places.{name_at, name_of, IsKeyBefore, AreKeyed, AreRight}
 use Rattle.node_map.specs.code.Made.{AreMade, AreNodeBlocks}
-use Rattle.node_map.proofs.ShapeLemmas.{group_within, group_few, some_groups, no_groups}
+use Rattle.node_map.proofs.lemmas.ShapeLemmas.{group_within, group_few, some_groups, no_groups}
 use Rattle.node_map.proofs.PastLemmas.{added, added_is, past_operand, past_helper, pasts_before, most_same}
 use Rattle.node_map.proofs.RankLemmas.{rank_none}
 

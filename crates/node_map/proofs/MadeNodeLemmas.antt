@@ -5,7 +5,7 @@ use Rattle.logic_four.specs.declared.V4.TheVariants.{Zero}
 use Rattle.logic_four.specs.declared.Kind.{Kind}
 use Rattle.logic_four.specs.declared.Kind.TheVariants.{And, Nand, Or, Nor, Xor, Xnor, Not, Buf, Tri, Bus}
 use Rattle.logic_four.specs.Kinds.{AllowsOperands}
-use Rattle.logic_four.proofs.KindLemmas.{some_operands, few_operands}
+use Rattle.logic_four.proofs.lemmas.KindLemmas.{some_operands, few_operands}
 use Rattle.func_table.specs.declared.table.Table.{Table}
 use Rattle.node_defs.specs.declared.groups.Group.{Group}
 use Rattle.node_defs.specs.declared.items.Feed.TheVariants.{Fixed, From}
@@ -17,7 +17,7 @@ use Rattle.node_defs.specs.Groups.{group_at, helper_count}
 use Rattle.node_defs.specs.Items.{IsNamed, feed_at, helper_of, wire_tag}
 use Rattle.node_map.specs.code.Nodes.{IsFeed, AreFeeds, IsNodeAt, node_kind}
 use Rattle.node_map.specs.code.Tables.{AddsOnly, HasTable}
-use Rattle.node_map.proofs.ShapeLemmas.{shaped, some_groups, narrow_groups}
+use Rattle.node_map.proofs.lemmas.ShapeLemmas.{shaped, some_groups, narrow_groups}
 
 -- four operands, each of its place
 pub four_feeds : (names : List ItemName) (late : Bool) (s : ℕ) (ops : List ℕ) (group : Group) (feeds : Feeds) → group.size ≤ 4

@@ -18,10 +18,10 @@ use Rattle.list_laws.proofs.Differ.{differ_at}
 use Rattle.list_laws.proofs.Places.{place_of, place_below}
 use Rattle.list_laws.proofs.Ranges.{last_or, replicate_read}
 use Rattle.rank_find.proofs.WalkLemmas.{is_gate_or}
-use Rattle.rank_find.proofs.NumberLemmas.{gate_within}
+use Rattle.rank_find.proofs.lemmas.NumberLemmas.{gate_within}
 use Rattle.node_defs.specs.Groups.{groups}
 use Rattle.node_map.specs.code.Wires.{operands_of, helpers_at, class_at, past_of, pasts_to, rank_at, AreOwnRanks}
-use Rattle.node_map.proofs.ShapeLemmas.{few_groups, no_groups}
+use Rattle.node_map.proofs.lemmas.ShapeLemmas.{few_groups, no_groups}
 use Rattle.node_map.proofs.PastLemmas.{pasts_le}
 
 -- ---- bounds

@@ -11,8 +11,8 @@ use Rattle.logic_four.specs.declared.V4.{V4}
 use Rattle.logic_four.specs.declared.Kind.{Kind}
 use Rattle.logic_four.specs.Values.{code_of, value_of}
 use Rattle.logic_four.specs.Packed.{packed_value}
-use Rattle.logic_four.proofs.CodeLemmas.{value_of-code_of, code_of_small}
-use Rattle.logic_four.proofs.PackedLemmas.{code_in-replaced_same, code_in-replaced_other, value-set_same, value-set_other}
+use Rattle.logic_four.proofs.lemmas.CodeLemmas.{value_of-code_of, code_of_small}
+use Rattle.logic_four.proofs.lemmas.PackedLemmas.{code_in-replaced_same, code_in-replaced_other, value-set_same, value-set_other}
 use Rattle.func_table.specs.declared.table.Table.{Table}
 use Rattle.func_table.specs.Entries.{entry_of, entry_for, place_of, AreAlike, AreOther, IsTableOf}
 use Rattle.func_table.specs.code.Entries.{answer_at}

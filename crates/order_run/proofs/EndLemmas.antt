@@ -7,7 +7,7 @@ use Rattle.image_defs.specs.declared.image.Image.{Image}
 use Rattle.image_defs.specs.WellFormed.{IsWellFormed}
 use Rattle.event_defs.specs.Sound.{IsSound}
 use Rattle.event_defs.specs.Steps.{rows_done}
-use Rattle.event_core.specs.Core.{AreDone, CoreView, IsSameCore, IsStart, rows_of, state_of}
+use Rattle.order_run.specs.Core.{AreDone, CoreView, IsSameCore, IsStart, rows_of, state_of}
 use Rattle.stim_text.specs.declared.order.Order.{Order}
 use Rattle.stim_text.specs.Orders.{steps_of}
 use Rattle.machine_run.specs.Shown.{AreShown}

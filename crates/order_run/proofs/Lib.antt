@@ -1,3 +1,8 @@
+mod CoreLemmas
 mod EndLemmas
+mod EventLemmas
+mod RoundLemmas
 mod RowLemmas
+mod SeatLemmas
+mod StartLemmas
 mod StepLemmas

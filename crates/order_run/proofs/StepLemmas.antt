@@ -15,12 +15,12 @@ use Rattle.image_defs.specs.declared.image.Image.{Image}
 use Rattle.image_defs.specs.declared.image.PortImage.{PortImage}
 use Rattle.image_defs.specs.Places.{IsPort, host_of}
 use Rattle.image_defs.specs.WellFormed.{IsWellFormed}
-use Rattle.node_defs.proofs.MemberLemmas.{member_at}
+use Rattle.node_defs.proofs.lemmas.MemberLemmas.{member_at}
 use Rattle.event_defs.specs.declared.place.CoreStep.{CoreStep}
 use Rattle.event_defs.specs.declared.place.CoreStep.TheVariants.{Moved, NotYet, Done}
 use Rattle.event_defs.specs.Sound.{IsSound}
 use Rattle.event_defs.specs.Steps.{CoreState, AreSteps, AreFirstSteps, IsStep, AllDone, first_state, rows_done}
-use Rattle.event_core.specs.Core.{CoreView, IsStart, IsSameCore, IsSoundCore, Applies, AreDone, state_of, turns_of, rows_of}
+use Rattle.order_run.specs.Core.{CoreView, IsStart, IsSameCore, IsSoundCore, Applies, AreDone, state_of, turns_of, rows_of}
 use Rattle.net_defs.specs.declared.trace.CellRow.{CellRow}
 use Rattle.machine_run.specs.Shown.{AreShown}
 use Rattle.order_run.specs.code.Stepped.{HasStepped}

@@ -1,2 +1,5 @@
 pub mod code
+pub mod Core
+pub mod Kept
 pub mod Orders
+pub mod Seats

@@ -1,1 +1,4 @@
+pub mod Core
+pub mod Made
+pub mod Seats
 pub mod Stepped

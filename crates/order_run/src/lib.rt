@@ -1,6 +1,16 @@
-//! A core that steps in an order, or round after round to its end, and the rows that are done then.
+//! A whole machine in one thread, stepped by single events: any port at any time, in an order that is
+//! given, or round after round to its end, and the rows that are done then. The crate `event_defs` says
+//! what a step is, which states are sound and how many events a run has; here is the machine that makes
+//! the steps. Its contracts see of it its image, its stimulus, the number of banks, the places of its
+//! ports and the words that they share.
 #![tactic(auto)]
 
+mod core_run;
+mod rows;
+mod seats;
 mod steps;
+mod words;
 
+pub use core_run::Core;
+pub use event_defs::{CoreStep, Event};
 pub use steps::{rows_by_order, rows_by_rounds};

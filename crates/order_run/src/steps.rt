@@ -8,11 +8,11 @@ ghost use Rattle.net_defs.specs.Time.{cycle_count};
 ghost use Rattle.net_defs.specs.Valid.{IsValidStimulus};
 ghost use Rattle.stim_text.specs.declared.order.OrderLine.{OrderLine};
 ghost use Rattle.stim_text.specs.Orders.{IsValidOrder};
-ghost use Rattle.event_core.specs.Core.{AreDone, IsSameCore, IsSoundCore, rows_of};
+ghost use Rattle.order_run.specs.Core.{AreDone, IsSameCore, IsSoundCore, rows_of};
 ghost use Rattle.order_run.specs.Orders.{AreRowsInOrder};
 ghost use Rattle.order_run.specs.code.Stepped.{HasStepped, IsEndingOf};
 
-use event_core::{Core, CoreStep};
+use crate::{Core, CoreStep};
 use event_defs::law::steps_are_sound;
 use image_defs::Image;
 use net_defs::{CellRow, Rows, Stimulus};

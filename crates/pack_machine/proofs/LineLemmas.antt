@@ -7,9 +7,9 @@ use Rattle.std.proofs.lemmas.Bool.{cases_eq}
 use Rattle.std.proofs.lemmas.List.{length-set}
 use Rattle.std.proofs.lemmas.List.FromFn.{get_or-enumerate_from, length-map-range_with_len}
 use Rattle.std.proofs.lemmas.Option.{get_or_from_slice_get, slice_get-get_or}
-use Rattle.machine_run.proofs.LinesLemmas.{row_shown}
+use Rattle.machine_run.proofs.lemmas.LinesLemmas.{row_shown}
 use Rattle.machine_run.specs.Lines.{cells_shown}
-use Rattle.crew_run.proofs.Places.{set_other, set_same}
+use Rattle.crew_run.proofs.lemmas.Places.{set_other, set_same}
 use Rattle.image_defs.specs.Frames.{shown}
 use Rattle.image_defs.specs.Steps.{timing_of}
 use Rattle.image_defs.specs.declared.image.Image.{Image}
@@ -21,7 +21,7 @@ use Rattle.net_defs.specs.declared.stimulus.Stimulus.{Stimulus}
 use Rattle.slot_words.specs.packed.Words.{stimulus_of, turns_of}
 use Rattle.port_host.specs.Rows.{printed_sources}
 use Rattle.seen_list.specs.Filling.{Filling}
-use Rattle.stim_text.proofs.LaneLemmas.{lane_input}
+use Rattle.stim_text.proofs.lemmas.LaneLemmas.{lane_input}
 use Rattle.stim_text.specs.Lanes.{longest, own_stimulus}
 use Rattle.trace_text.specs.Line.{row_room}
 use Rattle.stim_text.specs.declared.lanes.Lanes.{Lanes}

@@ -11,11 +11,11 @@ use Rattle.image_defs.specs.WellFormed.{IsWellFormed}
 use Rattle.image_defs.specs.declared.image.Image.{Image}
 use Rattle.limits.specs.declared.TheConstants.{MAX_CYCLES, MAX_UNITS}
 use Rattle.machine_run.proofs.MoveLemmas.{dealt_moved, have_ended}
-use Rattle.machine_run.proofs.RoomLemmas.{can_tell_few}
-use Rattle.machine_run.proofs.VisitLemmas.{all_visited, can_run, visited_in_place}
+use Rattle.machine_run.proofs.lemmas.RoomLemmas.{can_tell_few}
+use Rattle.machine_run.proofs.lemmas.VisitLemmas.{all_visited, can_run, visited_in_place}
 use Rattle.machine_run.specs.Visits.{AreInPlace, AreVisitsOf}
 use Rattle.machine_run.specs.code.Moves.{HasEnded}
-use Rattle.stim_text.proofs.LaneLemmas.{longest_few}
+use Rattle.stim_text.proofs.lemmas.LaneLemmas.{longest_few}
 use Rattle.stim_text.specs.Lanes.{AreLanes, longest}
 use Rattle.stim_text.specs.declared.lanes.Lanes.{Lanes}
 use Rattle.pack_run.specs.Pairs.{last_turn}

@@ -12,9 +12,9 @@ use Rattle.image_defs.specs.Places.{IsPort, Stands}
 use Rattle.image_defs.specs.declared.image.Image.{Image}
 use Rattle.image_defs.specs.declared.image.LinkOut.{LinkOut}
 use Rattle.image_defs.specs.declared.image.PortImage.{PortImage}
-use Rattle.event_defs.proofs.KeptLemmas.{step_sound}
-use Rattle.event_defs.proofs.PaceLemmas.{latest_missing}
-use Rattle.event_defs.proofs.SlotLemmas.{updated_here, updated_there}
+use Rattle.event_defs.proofs.lemmas.KeptLemmas.{step_sound}
+use Rattle.event_defs.proofs.lemmas.PaceLemmas.{latest_missing}
+use Rattle.event_defs.proofs.lemmas.SlotLemmas.{updated_here, updated_there}
 use Rattle.event_defs.specs.Next.{AsksNext, ReceivesNext, SendsNext, TellsNext}
 use Rattle.event_defs.specs.Places.{IsSend, after_ask, after_put, after_take, after_tell, known_of, latest}
 use Rattle.event_defs.specs.Row.{send_number, word_place}
@@ -28,13 +28,13 @@ use Rattle.atomic_table.specs.Seated.{TableId}
 use Rattle.atomic_table.specs.Table.{Act, State, stepped}
 use Rattle.list_laws.proofs.Members.{member_at}
 use Rattle.slot_words.proofs.LookLemmas.{counted_look, told_progress, told_sent}
-use Rattle.slot_words.proofs.SoundLemmas.{told_none}
+use Rattle.slot_words.proofs.lemmas.SoundLemmas.{told_none}
 use Rattle.slot_words.proofs.StepLemmas.{near_sender, sent_read}
-use Rattle.slot_words.proofs.TimeLemmas.{progress_kept, progress_set, send_room, sent_set}
+use Rattle.slot_words.proofs.lemmas.TimeLemmas.{progress_kept, progress_set, send_room, sent_set}
 use Rattle.slot_words.specs.Layout.{progress_in, progress_word, send_word, sent_in, told_in, turns_told}
 use Rattle.slot_words.specs.Rule.{HasPass, IsKept, IsPassOf}
 use Rattle.slot_words.specs.declared.rule.TheConstants.{UNCLAIMED}
-use Rattle.port_run.proofs.NextLemmas.{asked_in}
+use Rattle.port_run.proofs.lemmas.NextLemmas.{asked_in}
 use Rattle.port_run.specs.Core.{is_look}
 use Rattle.slot_words.proofs.PackedLemmas.{one_kept, rule_sound}
 use Rattle.slot_words.specs.packed.Passes.{PackPassView}

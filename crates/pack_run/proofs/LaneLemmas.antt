@@ -6,9 +6,9 @@ use Rattle.logic_four.specs.Values.{code_of}
 use Rattle.logic_four.specs.declared.V4.{V4}
 use Rattle.lane_planes.specs.Lanes.{lane_of}
 use Rattle.lane_planes.specs.declared.planes.Planes.{Planes}
-use Rattle.event_defs.proofs.SlotLemmas.{updated_here}
-use Rattle.event_defs.proofs.StampLemmas.{written_here, written_there}
-use Rattle.event_defs.proofs.WordLemmas.{stamp_in as stamp_of_put}
+use Rattle.event_defs.proofs.lemmas.SlotLemmas.{updated_here}
+use Rattle.event_defs.proofs.lemmas.StampLemmas.{written_here, written_there}
+use Rattle.event_defs.proofs.lemmas.WordLemmas.{stamp_in as stamp_of_put}
 use Rattle.event_defs.specs.Sound.{AreStamps}
 use Rattle.event_defs.specs.Steps.{written}
 use Rattle.event_defs.specs.Steps as core

@@ -4,8 +4,8 @@ use Rattle.logic_four.specs.declared.V4.{V4}
 use Rattle.image_defs.specs.Frames.{image_value}
 use Rattle.image_defs.specs.Places.{IsPort}
 use Rattle.image_defs.specs.declared.image.PortImage.{PortImage}
-use Rattle.event_defs.proofs.NextLemmas.{one_next}
-use Rattle.event_defs.proofs.PaceLemmas.{same_port}
+use Rattle.event_defs.proofs.lemmas.NextLemmas.{one_next}
+use Rattle.event_defs.proofs.lemmas.PaceLemmas.{same_port}
 use Rattle.event_defs.specs.Next.{IsNext}
 use Rattle.event_defs.specs.Places.{after_ask, after_put, after_take, after_tell}
 use Rattle.event_defs.specs.declared.place.Action.{Action}
@@ -14,7 +14,7 @@ use Rattle.event_defs.specs.declared.place.Event.{Event}
 use Rattle.event_defs.specs.declared.place.Event.TheVariants.{Ask, Put, Take, Tell}
 use Rattle.event_defs.specs.declared.place.Place.{Place}
 use Rattle.slot_words.specs.Layout.{progress_word}
-use Rattle.port_run.proofs.NextLemmas.{asked_in, asks_again, past_ports}
+use Rattle.port_run.proofs.lemmas.NextLemmas.{asked_in, asks_again, past_ports}
 use Rattle.slot_words.specs.packed.Laws.{packed_stamp}
 use Rattle.slot_words.specs.packed.Passes.{IsFit, IsRunning, PackPassView, one_step}
 use Rattle.slot_words.specs.packed.Words.{packed, stamp_in, stamp_of, stimulus_of, turns_of}

@@ -10,7 +10,7 @@ use Rattle.crew_run.specs.declared.stepper.Step.{Step}
 use Rattle.crew_run.specs.declared.stepper.Step.TheVariants.{Done, Moved, NotYet}
 use Rattle.list_laws.proofs.Members.{member_at}
 use Rattle.slot_words.specs.Layout.{progress_word}
-use Rattle.port_run.proofs.NextLemmas.{asked_in}
+use Rattle.port_run.proofs.lemmas.NextLemmas.{asked_in}
 use Rattle.pack_walk.specs.Placed.{CanPut, CanTake, HasPut, HasTaken, IsNextOf, IsNextValue, IsReceiving, IsSending, PlacedPack, at_start, lane_action, value_in}
 use Rattle.port_walk.specs.declared.upcoming.Upcoming.{Upcoming}
 use Rattle.port_walk.specs.declared.upcoming.Upcoming.TheVariants as action

@@ -1,1 +1,5 @@
+pub mod CellLemmas
+pub mod CursorLemmas
+pub mod FeedLemmas
+pub mod HostLemmas
 mod PlacedLemmas

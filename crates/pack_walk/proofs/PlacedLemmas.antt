@@ -4,7 +4,7 @@ use Rattle.std.proofs.Math.Nat.{min-eq_left}
 use Rattle.limits.specs.declared.TheConstants.{LANES}
 use Rattle.stim_text.specs.declared.lanes.Lanes.{Lanes}
 use Rattle.stim_text.specs.Lanes.{longest, AreLanes}
-use Rattle.stim_text.proofs.LaneLemmas.{lane_turns, lane_valid}
+use Rattle.stim_text.proofs.lemmas.LaneLemmas.{lane_turns, lane_valid}
 use Rattle.net_defs.specs.Valid.{IsValidStimulus}
 use Rattle.image_defs.specs.declared.image.Image.{Image}
 use Rattle.image_defs.specs.declared.image.LinkIn.{LinkIn}

@@ -1,3 +1,6 @@
+pub mod Cells
 pub mod code
 pub mod Kept
 pub mod Placed
+pub mod Ready
+pub mod Turns

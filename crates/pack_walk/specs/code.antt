@@ -1,1 +1,4 @@
+pub mod Cells
+pub mod Feeds
 pub mod Kinds
+pub mod Turns

@@ -5,9 +5,9 @@ ghost use Rattle.stim_text.specs.Lanes.{AreLanes};
 ghost use Rattle.image_defs.specs.WellFormed.{IsWellFormed};
 ghost use Rattle.pack_walk.specs.code.Kinds.{IsFirst};
 
+use crate::PackHost;
 use image_defs::{Image, Work};
 use lane_planes::Planes;
-use pack_host::PackHost;
 use port_array::ArrayPort;
 use port_logic::LogicPort;
 use port_walk::Kind;

@@ -1,9 +1,16 @@
 //! A packed port of any kind with its place in the turn: it executes its items by itself in all lanes, as
-//! far as it can, and tells what comes next between it and the other ports.
+//! far as it can, and tells what comes next between it and the other ports. And the packed host: it feeds
+//! the inputs of each lane from the rows of that lane's stimulus, and keeps what is printed in each lane
+//! after the last turn of each cycle.
 #![tactic(auto)]
 
+mod cells;
+mod feed;
 mod kind;
 mod placed;
+mod port;
+mod rows;
 
 pub use placed::PackPlaced;
+pub use port::PackHost;
 pub use port_walk::Upcoming as PackAction;

@@ -6,10 +6,10 @@ ghost use Rattle.image_defs.specs.WellFormed.{IsWellFormed};
 ghost use Rattle.stim_text.specs.Lanes.{AreLanes};
 ghost use Rattle.pack_walk.specs.Placed.{at_start, in_next_turn, last_turn, IsNextOf, CanPut, CanTake, IsEnding, HasPut, HasTaken, IsNextValue, IsHostIn};
 
+use crate::PackHost;
 use crate::kind::{PackKind, first_kind};
 use image_defs::Image;
 use lane_planes::Planes;
-use pack_host::PackHost;
 use port_walk::lists::lists_of;
 use port_walk::{Kind, Upcoming, Walk};
 use seen_list::Memory;

@@ -1,9 +1,5 @@
-pub mod AddLemmas
-pub mod CountLemmas
+pub mod lemmas
 pub mod ListLemmas
-pub mod PlanLemmas
-pub mod PortLemmas
 pub mod PutLemmas
 pub mod ReaderLemmas
 pub mod UserLemmas
-pub mod WellFormedLemmas

@@ -6,7 +6,7 @@ use Rattle.std.proofs.lemmas.List.{get_or_default}
 use Rattle.list_laws.proofs.Ranges.{last_or}
 use Rattle.plan_defs.specs.declared.bit_rows.BitRows.{BitRows}
 use Rattle.plan_defs.specs.Bits.{HasBit, IsShaped, Adds}
-use Rattle.plan_defs.proofs.AddLemmas.{adds_both, adds_same}
+use Rattle.plan_defs.proofs.lemmas.AddLemmas.{adds_both, adds_same}
 use Rattle.node_defs.specs.declared.items.Item.{Item}
 use Rattle.node_defs.specs.declared.items.NodeBlock.{NodeBlock}
 use Rattle.node_defs.specs.declared.items.NodeNet.{NodeNet}
@@ -16,7 +16,7 @@ use Rattle.plan_defs.specs.declared.plan.Homes.{Homes}
 use Rattle.plan_defs.specs.Homes.{AreHomes, home_of, block_home, host_of}
 use Rattle.plan_defs.specs.Readers.{ItemTakes, MemoryTakes, IsUser}
 use Rattle.plan_defs.specs.code.UserRows.{HasPlace, AreUsers}
-use Rattle.plan_defs.proofs.PortLemmas.{user_port}
+use Rattle.plan_defs.proofs.lemmas.PortLemmas.{user_port}
 
 pub place_kept : (a b : BitRows) (P : ℕ → ℕ → Type 0) (row bit : ℕ) → Adds a b P → HasPlace a row bit → HasPlace b row bit
 place_kept a b P row bit adds place = record {

@@ -23,8 +23,8 @@ use Rattle.plan_defs.specs.declared.switch.PortLinks.{PortLinks}
 use Rattle.plan_defs.specs.declared.switch.Switch.{Switch}
 use Rattle.plan_defs.specs.ReaderLists.{AreReaders}
 use Rattle.plan_defs.specs.Switches.{AreReceipts, IsSwitch}
-use Rattle.plan_defs.proofs.CountLemmas.{few_below}
-use Rattle.plan_defs.proofs.PortLemmas.{reader_port}
+use Rattle.plan_defs.proofs.lemmas.CountLemmas.{few_below}
+use Rattle.plan_defs.proofs.lemmas.PortLemmas.{reader_port}
 use Rattle.home_pick.proofs.FillLemmas.{bits_at, bits_more, at_same, at_other}
 use Rattle.plan_text.specs.Counted.{Receives}
 

@@ -1,2 +1,2 @@
 pub mod FigureLemmas
-pub mod OneLemmas
+pub mod lemmas

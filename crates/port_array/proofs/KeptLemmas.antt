@@ -21,10 +21,10 @@ use Rattle.image_defs.specs.WellFormed.{IsWellFormed, IsPast, IsBlock, IsBit, Is
 use Rattle.image_defs.specs.Steps.{value_of_member, past_value, block_act, block_bit, block_words_after, bit_value, item_value, timing_of}
 use Rattle.image_defs.specs.Frames.{frame}
 use Rattle.image_defs.specs.Ports.{PortView, CanExecute, at_first, after_begin, after_end, value_in}
-use Rattle.image_defs.proofs.PlaceLemmas.{at_map}
-use Rattle.image_defs.proofs.ValueLemmas.{value_meets}
+use Rattle.image_defs.proofs.lemmas.PlaceLemmas.{at_map}
+use Rattle.image_defs.proofs.lemmas.ValueLemmas.{value_meets}
 use Rattle.port_bank.specs.Reads.{IsHeld, now_in, past_in}
-use Rattle.port_bank.proofs.TurnLemmas.{turn_meets, item_meets, there_within}
+use Rattle.port_bank.proofs.lemmas.TurnLemmas.{turn_meets, item_meets, there_within}
 use Rattle.port_array.specs.Acts.{LaneMemory, AreFit}
 use Rattle.port_array.specs.code.Acts.{act_at, IsPastAt, ReadsPast, HasFewBits, AreFirst, Acted, AreActed, FitsBit, answered_bit}
 use Rattle.port_array.specs.Kept.{words_turn, LaneArray, IsReady}

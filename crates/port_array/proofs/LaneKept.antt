@@ -13,7 +13,7 @@ use Rattle.port_bank.specs.declared.word.Word as word
 use Rattle.port_bank.specs.Lanes.{InEach}
 use Rattle.port_bank.specs.Reads.{IsHeld}
 use Rattle.port_bank.specs.Words.{InEachLane, AreValues}
-use Rattle.port_bank.proofs.LaneLemmas.{in_each, in_lane}
+use Rattle.port_bank.proofs.lemmas.LaneLemmas.{in_each, in_lane}
 use Rattle.port_array.specs.declared.memory.MemoryState.{MemoryState}
 use Rattle.port_array.specs.code.Acts.{answered_bit, FitsBit}
 use Rattle.port_array.specs.Kept as one_kept

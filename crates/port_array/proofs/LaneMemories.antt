@@ -8,10 +8,10 @@ use Rattle.list_laws.proofs.Places.{one_there, at_front, seam_at}
 use Rattle.list_laws.proofs.Ranges.{last_or}
 use Rattle.logic_four.specs.declared.V4.{V4}
 use Rattle.logic_four.specs.Memory.{initial_words, HasShape}
-use Rattle.logic_four.proofs.MemoryLemmas.{first_shape}
+use Rattle.logic_four.proofs.lemmas.MemoryLemmas.{first_shape}
 use Rattle.image_defs.specs.declared.image.BlockWork.{BlockWork}
 use Rattle.image_defs.specs.Ports.{View, lane_port}
-use Rattle.image_defs.proofs.PlaceLemmas.{at_map}
+use Rattle.image_defs.proofs.lemmas.PlaceLemmas.{at_map}
 use Rattle.port_bank.specs.declared.word.Word as word
 use Rattle.port_bank.specs.Places.{lane_values}
 use Rattle.port_array.specs.declared.memory.MemoryState.{MemoryState}

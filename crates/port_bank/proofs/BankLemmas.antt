@@ -22,8 +22,8 @@ use Rattle.image_defs.specs.Places.{item_slots, in_slots, sender_in, IsPort, IsI
 use Rattle.image_defs.specs.WellFormed.{IsWellFormed}
 use Rattle.image_defs.specs.Frames.{image_value}
 use Rattle.image_defs.specs.Ports.{CanExecute, CanReceive, CanEnd, value_in}
-use Rattle.image_defs.proofs.PlaceLemmas.{Rises, rises, sender_found}
-use Rattle.image_defs.proofs.ValueLemmas.{value_meets}
+use Rattle.image_defs.proofs.lemmas.PlaceLemmas.{Rises, rises, sender_found}
+use Rattle.image_defs.proofs.lemmas.ValueLemmas.{value_meets}
 use Rattle.port_bank.specs.declared.steps.Operand.{Operand}
 use Rattle.port_bank.specs.Flat.{operand_of}
 use Rattle.port_bank.specs.Reads.{IsAtHand, IsRead, value_taken}

@@ -17,7 +17,7 @@ use Rattle.port_bank.specs.Places.{Turns, count, in_lane}
 use Rattle.port_bank.specs.code.Places.{numbered, AreBlank}
 use Rattle.port_bank.specs.Reads.{IsRead, IsHeld}
 use Rattle.port_bank.proofs.BankLemmas as plain
-use Rattle.port_bank.proofs.LaneLemmas as lane_lemmas
+use Rattle.port_bank.proofs.lemmas.LaneLemmas as lane_lemmas
 
 module _ {W S : Type 0} (lanes : ℕ) (some : 0 < lanes) (lane : W → ℕ → V4) (stimulus : ℕ → S → ℕ → Stimulus) where
   -- ---- what is read

@@ -1,8 +1,7 @@
 pub mod BankLemmas
 mod ItemLemmas
 mod LaneBanks
-pub mod LaneLemmas
 mod LanePlaces
+pub mod lemmas
 mod PairLemmas
 pub mod PlaceLemmas
-pub mod TurnLemmas

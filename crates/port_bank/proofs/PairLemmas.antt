@@ -5,7 +5,7 @@ use Rattle.std.proofs.lemmas.Nat.{pow-add}
 use Rattle.logic_four.specs.declared.V4.{V4}
 use Rattle.logic_four.specs.Values.{code_of, value_of}
 use Rattle.logic_four.specs.Packed.{code_in, packed_value}
-use Rattle.logic_four.proofs.CodeLemmas.{code_of_small}
+use Rattle.logic_four.proofs.lemmas.CodeLemmas.{code_of_small}
 use Rattle.func_table.specs.declared.table.Table.{Table}
 use Rattle.func_table.specs.Entries.{entry_of, entry_for}
 

@@ -14,7 +14,7 @@ ghost use Rattle.net_defs.specs.declared.stimulus.Stimulus.{Stimulus};
 ghost use Rattle.net_defs.specs.Valid.{IsValidStimulus};
 ghost use Rattle.stim_text.specs.Lanes.{lane_stimulus, AreLanes};
 ghost use Rattle.std.proofs.Common.{zero-le, suc-le-suc};
-ghost use Rattle.stim_text.proofs.LaneLemmas.{lane_valid};
+ghost use Rattle.stim_text.proofs.lemmas.LaneLemmas.{lane_valid};
 ghost use Rattle.port_bank.specs.Lanes.{InEach};
 
 use func_table::Table;

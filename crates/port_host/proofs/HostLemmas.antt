@@ -20,10 +20,10 @@ use Rattle.image_defs.specs.WellFormed.{IsWellFormed, IsPresent, IsWork}
 use Rattle.image_defs.specs.Steps.{Grid, value_of_member, source_value, column_value, item_value}
 use Rattle.image_defs.specs.Frames.{frame, printed_value, shown}
 use Rattle.image_defs.specs.Ports.{PortView, CanExecute, CanEnd, at_first, after_end, value_in}
-use Rattle.image_defs.proofs.PlaceLemmas.{at_map}
+use Rattle.image_defs.proofs.lemmas.PlaceLemmas.{at_map}
 use Rattle.port_bank.specs.Flat.{IsWithin}
 use Rattle.port_bank.specs.Reads.{IsAtHand, now_in, past_in}
-use Rattle.port_bank.proofs.TurnLemmas.{item_meets, there_within}
+use Rattle.port_bank.proofs.lemmas.TurnLemmas.{item_meets, there_within}
 use Rattle.port_host.specs.declared.cursor.Progress.{Progress}
 use Rattle.port_host.specs.declared.port.HostPort.TheInside.{Inside}
 use Rattle.port_host.specs.Rows.{values_in, turn_of, rows_done, printed_sources, row_start, HasRoom, IsOn, HasRows}

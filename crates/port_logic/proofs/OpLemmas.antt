@@ -18,7 +18,7 @@ use Rattle.image_defs.specs.Ports.{PortView}
 use Rattle.port_bank.specs.declared.steps.Operand.{Operand}
 use Rattle.port_bank.specs.Flat.{place_count, operand_of}
 use Rattle.port_bank.specs.Reads.{IsAtHand, IsRead, IsHeld, now_in, past_in, value_taken}
-use Rattle.port_bank.proofs.TurnLemmas.{place_within, past_at_hand, past_taken}
+use Rattle.port_bank.proofs.lemmas.TurnLemmas.{place_within, past_at_hand, past_taken}
 use Rattle.port_logic.specs.declared.op.Op.{Op}
 use Rattle.port_logic.specs.declared.op.Op.TheVariants.{Pair, Look, Keep}
 use Rattle.port_logic.specs.Ops.{IsFormIn, IsOp, IsPairOf, AreOpsOf}

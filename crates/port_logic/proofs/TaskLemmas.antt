@@ -14,13 +14,13 @@ use Rattle.image_defs.specs.Places.{Each, task_slot, IsPort, IsItemIn}
 use Rattle.image_defs.specs.WellFormed.{IsWellFormed, IsOperand, IsTask, IsWork}
 use Rattle.image_defs.specs.Steps.{task_value, item_value, value_of_member}
 use Rattle.image_defs.specs.Ports.{View, PortView, CanExecute, lane_port, at_first, value_in}
-use Rattle.image_defs.proofs.PlaceLemmas.{at_map}
+use Rattle.image_defs.proofs.lemmas.PlaceLemmas.{at_map}
 use Rattle.port_bank.specs.Flat.{place_count}
 use Rattle.port_bank.specs.Lanes.{InEach}
 use Rattle.port_bank.specs.Reads.{IsAtHand, now_in, past_in}
 use Rattle.port_bank.proofs.BankLemmas.{slot_low}
-use Rattle.port_bank.proofs.LaneLemmas.{in_lane, in_each}
-use Rattle.port_bank.proofs.TurnLemmas.{item_meets, there_within, operand_at_hand}
+use Rattle.port_bank.proofs.lemmas.LaneLemmas.{in_lane, in_each}
+use Rattle.port_bank.proofs.lemmas.TurnLemmas.{item_meets, there_within, operand_at_hand}
 use Rattle.port_logic.specs.declared.op.Op.{Op}
 use Rattle.port_logic.specs.Ops.{AreOps}
 use Rattle.port_logic.specs.code.Ops.{IsTaskWithin, IsTabled, FitsOp}

@@ -10,10 +10,10 @@ use Rattle.image_defs.specs.declared.image.Image.{Image}
 use Rattle.image_defs.specs.declared.image.LinkOut.{LinkOut}
 use Rattle.image_defs.specs.declared.image.PortImage.{PortImage}
 use Rattle.net_defs.specs.declared.stimulus.Stimulus.{Stimulus}
-use Rattle.event_defs.proofs.KeptLemmas.{step_sound}
-use Rattle.event_defs.proofs.PaceLemmas.{latest_missing, same_port, same_send}
-use Rattle.event_defs.proofs.SlotLemmas.{updated_here, updated_there}
-use Rattle.event_defs.proofs.WordLemmas.{found_stamp, stamp_in}
+use Rattle.event_defs.proofs.lemmas.KeptLemmas.{step_sound}
+use Rattle.event_defs.proofs.lemmas.PaceLemmas.{latest_missing, same_port, same_send}
+use Rattle.event_defs.proofs.lemmas.SlotLemmas.{updated_here, updated_there}
+use Rattle.event_defs.proofs.lemmas.WordLemmas.{found_stamp, stamp_in}
 use Rattle.event_defs.specs.Next.{SendsNext}
 use Rattle.event_defs.specs.Places.{IsSend, latest}
 use Rattle.event_defs.specs.Row.{send_number, word_place}
@@ -26,9 +26,9 @@ use Rattle.event_defs.specs.declared.place.Place.{Place}
 use Rattle.atomic_table.proofs.Lists.{at_set}
 use Rattle.atomic_table.specs.Seated.{TableId}
 use Rattle.slot_words.proofs.LookLemmas.{told_progress, told_sent}
-use Rattle.slot_words.proofs.SoundLemmas.{told_none}
+use Rattle.slot_words.proofs.lemmas.SoundLemmas.{told_none}
 use Rattle.slot_words.proofs.StepLemmas.{sent_read}
-use Rattle.slot_words.proofs.TimeLemmas.{progress_kept, progress_set, send_room, sent_set}
+use Rattle.slot_words.proofs.lemmas.TimeLemmas.{progress_kept, progress_set, send_room, sent_set}
 use Rattle.slot_words.specs.Layout.{progress_in, send_word, sent_in, told_in, turns_told}
 use Rattle.slot_words.specs.plain.Passes.{PassView}
 use Rattle.slot_words.specs.Rule.{HasPass, IsKept, IsPassOf}

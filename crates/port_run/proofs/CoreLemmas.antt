@@ -4,10 +4,10 @@ use Rattle.logic_four.specs.Values.{code_of}
 use Rattle.image_defs.specs.Frames.{image_value}
 use Rattle.image_defs.specs.Places.{IsPort, Stands}
 use Rattle.image_defs.specs.declared.image.PortImage.{PortImage}
-use Rattle.event_defs.proofs.NextLemmas.{one_next}
-use Rattle.event_defs.proofs.PaceLemmas.{same_port}
-use Rattle.event_defs.proofs.SlotLemmas.{updated_here}
-use Rattle.event_defs.proofs.StampLemmas.{written_here}
+use Rattle.event_defs.proofs.lemmas.NextLemmas.{one_next}
+use Rattle.event_defs.proofs.lemmas.PaceLemmas.{same_port}
+use Rattle.event_defs.proofs.lemmas.SlotLemmas.{updated_here}
+use Rattle.event_defs.proofs.lemmas.StampLemmas.{written_here}
 use Rattle.event_defs.specs.Next.{AsksNext, IsNext, PutsNext, ReceivesNext, SendsNext, TellsNext}
 use Rattle.event_defs.specs.Places.{IsSend, after_ask, after_put, after_take, after_tell, known_of}
 use Rattle.event_defs.specs.Row.{send_number, word_place}
@@ -20,7 +20,7 @@ use Rattle.event_defs.specs.declared.place.Place.{Place}
 use Rattle.event_defs.specs.declared.place.CoreStep.TheVariants.{NotYet, Done}
 use Rattle.list_laws.proofs.Members.{member_at}
 use Rattle.slot_words.proofs.StepLemmas.{same_places}
-use Rattle.port_run.proofs.NextLemmas.{asked_again, asked_in}
+use Rattle.port_run.proofs.lemmas.NextLemmas.{asked_again, asked_in}
 use Rattle.slot_words.specs.Layout.{progress_word, send_word}
 use Rattle.slot_words.specs.plain.Passes.{IsFit, PassView}
 use Rattle.port_run.specs.Core.{IsCoreEvent, IsCoreStep, Shows, StandsIn, is_look}

@@ -1,6 +1,5 @@
 pub mod AfterLemmas
 pub mod CoreLemmas
-pub mod NextLemmas
+pub mod lemmas
 pub mod RunLemmas
 pub mod StateLemmas
-pub mod StepLemmas

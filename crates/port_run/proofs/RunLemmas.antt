@@ -25,8 +25,8 @@ use Rattle.slot_words.specs.declared.crossbar.Taken.TheVariants as taken
 use Rattle.port_run.specs.Pairs.{AreBegun, IsHostOf, RunView, first_block, next_block, placed, with_pass}
 use Rattle.port_run.specs.Kept.{IsKept, view_of}
 use Rattle.port_run.specs.declared.running.Running.TheInside.{Inside}
-use Rattle.port_run.proofs.NextLemmas.{asked_in}
-use Rattle.port_run.proofs.StepLemmas.{step_next}
+use Rattle.port_run.proofs.lemmas.NextLemmas.{asked_in}
+use Rattle.port_run.proofs.lemmas.StepLemmas.{step_next}
 use Rattle.port_run.specs.Steps.{Asks, IsEvent, IsStepOf, IsWait, Looks, word_now}
 use Rattle.port_run.specs.code.Steps.{IsAnswer, IsUpcoming}
 

@@ -7,10 +7,10 @@ use Rattle.image_defs.specs.declared.image.LinkIn.{LinkIn}
 use Rattle.image_defs.specs.declared.image.LinkOut.{LinkOut}
 use Rattle.image_defs.specs.declared.image.PortImage.{PortImage}
 use Rattle.image_defs.specs.Places.{in_slots, out_slots}
-use Rattle.image_defs.proofs.PlaceLemmas.{Rises, at_map}
+use Rattle.image_defs.proofs.lemmas.PlaceLemmas.{Rises, at_map}
 use Rattle.event_defs.specs.Places.{is_in}
 use Rattle.event_defs.specs.Next.{IsDoneBelow, SendsNext, ReceivesNext, EndsNext}
-use Rattle.event_defs.proofs.SlotLemmas.{any_at, in_at, same_index, to_map}
+use Rattle.event_defs.proofs.lemmas.SlotLemmas.{any_at, in_at, same_index, to_map}
 use Rattle.port_walk.specs.declared.stops.StopKind.{StopKind}
 use Rattle.port_walk.specs.declared.stops.StopKind.TheVariants.{Send, Receive, End}
 use Rattle.port_walk.specs.Stops.{kind_at, slot_at}

@@ -10,7 +10,7 @@ use Rattle.image_defs.specs.Ports.{View, lane_port, last_turn, value_in}
 use Rattle.event_defs.specs.Next.{IsNext}
 use Rattle.port_bank.specs.declared.word.Word as word
 use Rattle.port_bank.specs.Runs.{IsLastValue}
-use Rattle.port_bank.proofs.LaneLemmas.{in_lane}
+use Rattle.port_bank.proofs.lemmas.LaneLemmas.{in_lane}
 use Rattle.port_walk.specs.declared.stops.Stop.{Stop}
 use Rattle.port_walk.specs.declared.stops.StopKind.TheVariants.{Send, Receive, End}
 use Rattle.port_walk.specs.declared.upcoming.Upcoming.{Upcoming}

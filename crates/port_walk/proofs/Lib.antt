@@ -1,7 +1,7 @@
 pub mod BlockLemmas
 mod CursorLemmas
 mod KeptLemmas
-pub mod KindLemmas
+pub mod lemmas
 mod MoveLemmas
 mod NextLemmas
 mod RowLemmas

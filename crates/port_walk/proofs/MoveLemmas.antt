@@ -11,11 +11,11 @@ use Rattle.image_defs.specs.Places.{Each, IsPort, item_slots, in_slots, out_slot
 use Rattle.image_defs.specs.WellFormed.{IsWellFormed, IsPortImage}
 use Rattle.image_defs.specs.Frames.{image_value}
 use Rattle.image_defs.specs.Ports.{View, lane_port, after_end, after_receive, last_turn, CanReceive, CanEnd}
-use Rattle.image_defs.proofs.PlaceLemmas.{rises}
+use Rattle.image_defs.proofs.lemmas.PlaceLemmas.{rises}
 use Rattle.port_bank.specs.declared.word.Word as word
 use Rattle.port_bank.specs.Runs.{CanRun, HasRun, IsLastValue}
 use Rattle.port_bank.specs.Words.{InEachLane, InEachLaneOf}
-use Rattle.port_bank.proofs.LaneLemmas.{in_each, in_lane}
+use Rattle.port_bank.proofs.lemmas.LaneLemmas.{in_each, in_lane}
 use Rattle.port_walk.specs.declared.readers.Readers.{Readers}
 use Rattle.port_walk.specs.declared.stops.Stop.{Stop}
 use Rattle.port_walk.specs.declared.stops.StopKind.TheVariants.{Send}

@@ -7,7 +7,7 @@ use Rattle.std.proofs.lemmas.List.{length_push}
 use Rattle.std.proofs.lemmas.Option.{slice_get_cases, slice_get_within}
 use Rattle.list_laws.proofs.Places.{one_there, past_end, at_front, seam_at}
 use Rattle.list_laws.proofs.Ranges.{last_or}
-use Rattle.image_defs.proofs.PlaceLemmas.{rises}
+use Rattle.image_defs.proofs.lemmas.PlaceLemmas.{rises}
 use Rattle.port_bank.proofs.BankLemmas.{place_low}
 use Rattle.port_walk.specs.declared.stops.Stop.{Stop}
 use Rattle.port_walk.specs.declared.stops.StopKind.{StopKind}

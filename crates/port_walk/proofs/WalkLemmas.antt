@@ -14,11 +14,11 @@ use Rattle.image_defs.specs.Places.{Each, IsPort, item_slots, in_slots, out_slot
 use Rattle.image_defs.specs.WellFormed.{IsPortImage, IsWellFormed}
 use Rattle.image_defs.specs.Ports.{View, lane_port}
 use Rattle.port_bank.specs.declared.word.Word as word
-use Rattle.image_defs.proofs.PlaceLemmas.{Rises, rises, at_map}
+use Rattle.image_defs.proofs.lemmas.PlaceLemmas.{Rises, rises, at_map}
 use Rattle.event_defs.specs.Next.{SendsNext, ReceivesNext, EndsNext, IsNext}
-use Rattle.event_defs.proofs.NextLemmas.{sends_one, receives_one, sends_not_receives, sends_not_ends, receives_not_ends}
-use Rattle.event_defs.proofs.PaceLemmas.{same_port}
-use Rattle.event_defs.proofs.SlotLemmas.{to_map}
+use Rattle.event_defs.proofs.lemmas.NextLemmas.{sends_one, receives_one, sends_not_receives, sends_not_ends, receives_not_ends}
+use Rattle.event_defs.proofs.lemmas.PaceLemmas.{same_port}
+use Rattle.event_defs.proofs.lemmas.SlotLemmas.{to_map}
 use Rattle.port_walk.specs.declared.readers.Readers.{Readers}
 use Rattle.port_walk.specs.declared.stops.Stop.{Stop}
 use Rattle.port_walk.specs.declared.stops.StopKind.{StopKind}
@@ -27,7 +27,7 @@ use Rattle.port_walk.specs.declared.upcoming.Upcoming.{Upcoming}
 use Rattle.port_walk.specs.declared.upcoming.Upcoming.TheVariants.{Ask, Put, Take, Tell, Done}
 use Rattle.port_bank.specs.Runs.{CanRun}
 use Rattle.port_bank.specs.Words.{InEachLane}
-use Rattle.port_bank.proofs.LaneLemmas.{in_each}
+use Rattle.port_bank.proofs.lemmas.LaneLemmas.{in_each}
 use Rattle.port_walk.specs.code.Readers.{IsNextOfSend}
 use Rattle.port_walk.specs.Rows.{AreReaders, IsRow, start_of}
 use Rattle.port_walk.specs.Kept.{Parts, inner, view_of, IsKept}

@@ -1,7 +1,6 @@
-pub mod WalkLemmas
 pub mod CircleLemmas
-pub mod StepLemmas
-pub mod RunLemmas
-pub mod NumberLemmas
-pub mod Exclusion
 pub mod Existence
+pub mod lemmas
+pub mod RunLemmas
+pub mod StepLemmas
+pub mod WalkLemmas

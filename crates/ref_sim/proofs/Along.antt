@@ -18,9 +18,9 @@ use Rattle.net_defs.specs.Steps.{is_late, values_of}
 use Rattle.net_defs.specs.Loops.{IsGate, waits_for, IsOrder}
 use Rattle.list_laws.proofs.Differ.{differ_at}
 use Rattle.list_laws.proofs.Places.{place_of, place_below}
-use Rattle.rank_find.proofs.NumberLemmas.{gate_within}
+use Rattle.rank_find.proofs.lemmas.NumberLemmas.{gate_within}
 use Rattle.net_ops.proofs.Rows.{put_value}
-use Rattle.net_ops.proofs.Waits.{map_same, late_or, waits_here}
+use Rattle.net_ops.proofs.lemmas.Waits.{map_same, late_or, waits_here}
 
 -- what a gate answers over a row; what is no gate keeps its value
 abbrev pub gate_driven : List V4 → ℕ → Driver → V4

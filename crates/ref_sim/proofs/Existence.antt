@@ -17,7 +17,7 @@ use Rattle.net_defs.specs.Time.{value_at, turn_count}
 use Rattle.net_defs.specs.Steps.{State, is_late, values_of, words_of, driven, words_after, IsRightStep, first_state}
 use Rattle.net_defs.specs.Loops.{is_gate, IsGate, is_gate_driver, IsOrder}
 use Rattle.net_defs.specs.Reference.{IsSimulation}
-use Rattle.net_ops.proofs.Waits.{late_or}
+use Rattle.net_ops.proofs.lemmas.Waits.{late_or}
 use Rattle.ref_sim.proofs.Along.{along, along_length, along_keeps, along_gate}
 
 module _ (net : Netlist) (timing : Timing) (stimulus : Stimulus) (order : List ℕ) (is_order : IsOrder net timing order) where

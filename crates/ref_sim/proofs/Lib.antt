@@ -1,6 +1,6 @@
 pub mod Along
-pub mod Existence
-pub mod Simulations
-pub mod Uniqueness
-mod PrintLemmas
 pub mod CycleLemmas
+pub mod Existence
+pub mod lemmas
+mod PrintLemmas
+pub mod Uniqueness

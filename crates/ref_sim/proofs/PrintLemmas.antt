@@ -14,7 +14,7 @@ use Rattle.ref_sim.specs.Observing.{HasWatched}
 use Rattle.ref_sim.specs.Runs.{AreRowsOf}
 use Rattle.ref_sim.specs.code.Runs.{printed_row, value_in, ArePrinted}
 use Rattle.net_ops.specs.Lanes.{lane_row}
-use Rattle.net_ops.proofs.Waits.{map_same}
+use Rattle.net_ops.proofs.lemmas.Waits.{map_same}
 use Rattle.ref_sim.proofs.CycleLemmas.{same_values}
 
 -- what is printed of a row

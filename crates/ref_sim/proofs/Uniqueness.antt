@@ -20,7 +20,7 @@ use Rattle.net_defs.specs.Loops.{is_gate, IsGate, is_gate_driver, waits_for, IsO
 use Rattle.net_defs.specs.Reference.{IsSimulation}
 use Rattle.list_laws.proofs.Places.{place_of, place_below}
 use Rattle.rank_find.proofs.WalkLemmas.{is_gate_or}
-use Rattle.net_ops.proofs.Waits.{map_same, late_or, waits_here}
+use Rattle.net_ops.proofs.lemmas.Waits.{map_same, late_or, waits_here}
 
 module _ (net : Netlist) (timing : Timing) (stimulus : Stimulus) (order : List ℕ) (is_order : IsOrder net timing order) (turn : ℕ) (old one other : State) (first : IsRightStep net timing stimulus turn old one) (second : IsRightStep net timing stimulus turn old other) where
   -- what is no gate has the same value in both

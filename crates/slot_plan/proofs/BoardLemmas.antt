@@ -5,7 +5,7 @@ use Rattle.std.proofs.lemmas.List.{get_or_default}
 use Rattle.list_laws.proofs.Ranges.{last_or}
 use Rattle.plan_defs.specs.declared.bit_rows.BitRows.{BitRows}
 use Rattle.plan_defs.specs.Bits.{HasBit, Adds, IsShaped}
-use Rattle.plan_defs.proofs.AddLemmas.{adds_same}
+use Rattle.plan_defs.proofs.lemmas.AddLemmas.{adds_same}
 use Rattle.plan_defs.proofs.UserLemmas.{adds_either}
 use Rattle.slot_plan.specs.declared.board.Board.{Board}
 use Rattle.slot_plan.specs.code.Boards.{IsBoard, IsTaken, IsRuledOut, IsShut, IsRowFor}

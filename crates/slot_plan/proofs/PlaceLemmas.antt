@@ -16,8 +16,8 @@ use Rattle.plan_defs.specs.Homes.{AreHomes, home_of, ports_of}
 use Rattle.plan_defs.specs.Lists.{IsLeastFree}
 use Rattle.plan_defs.specs.Readers.{IsReader, IsReaderList}
 use Rattle.plan_defs.specs.Slots.{slot_of, needed_of, IsBlocked, AreFirstFit}
-use Rattle.plan_defs.proofs.PortLemmas.{home_port, reader_port}
-use Rattle.plan_defs.proofs.PlanLemmas.{blocked_agree, least_same}
+use Rattle.plan_defs.proofs.lemmas.PortLemmas.{home_port, reader_port}
+use Rattle.plan_defs.proofs.lemmas.PlanLemmas.{blocked_agree, least_same}
 use Rattle.slot_plan.specs.declared.board.Board.{Board}
 use Rattle.slot_plan.specs.declared.planning.Planning.{Planning}
 use Rattle.slot_plan.specs.code.Boards.{IsBoard, IsShut, IsRowFor}

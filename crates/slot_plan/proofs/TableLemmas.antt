@@ -6,7 +6,7 @@ use Rattle.std.proofs.Math.Seq.{get_or-append_seam}
 use Rattle.list_laws.proofs.Ranges.{last_or}
 use Rattle.plan_defs.specs.declared.bit_rows.BitRows.{BitRows}
 use Rattle.plan_defs.specs.Bits.{HasBit, IsShaped, Adds}
-use Rattle.plan_defs.proofs.AddLemmas.{adds_both, adds_same}
+use Rattle.plan_defs.proofs.lemmas.AddLemmas.{adds_both, adds_same}
 use Rattle.node_defs.specs.declared.items.Feeds.{Feeds}
 use Rattle.node_defs.specs.declared.items.Item.{Item}
 use Rattle.node_defs.specs.declared.items.Item.TheVariants.{Input, BlockBit, Node, Latch}

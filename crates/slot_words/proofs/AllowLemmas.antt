@@ -13,7 +13,7 @@ use Rattle.image_defs.specs.declared.image.Image.{Image}
 use Rattle.image_defs.specs.declared.image.LinkIn.{LinkIn}
 use Rattle.image_defs.specs.declared.image.LinkOut.{LinkOut}
 use Rattle.image_defs.specs.declared.image.PortImage.{PortImage}
-use Rattle.event_defs.proofs.PaceLemmas.{reader_in}
+use Rattle.event_defs.proofs.lemmas.PaceLemmas.{reader_in}
 use Rattle.event_defs.specs.Next.{EndsNext}
 use Rattle.event_defs.specs.Places.{IsSend, after_ask, after_put, after_take, after_tell, is_in, known_of}
 use Rattle.slot_words.proofs.StepLemmas.{ask_kept, claim_kept, kept_here, kept_there, put_kept, same_word, split_kept, stepped_view, take_finds, take_kept, tell_kept, told_more, wait_kept}

@@ -13,7 +13,7 @@ use Rattle.atomic_table.specs.Table.{step}
 use Rattle.atomic_table.specs.Seated.{TableId}
 use Rattle.atomic_table.specs.declared.shared.Seat.{Seat}
 use Rattle.slot_words.proofs.LinkLemmas.{receipt_found, send_found}
-use Rattle.slot_words.proofs.TimeLemmas.{progress_within, send_room}
+use Rattle.slot_words.proofs.lemmas.TimeLemmas.{progress_within, send_room}
 use Rattle.slot_words.specs.declared.feed.Feed.{Ghosts}
 use Rattle.slot_words.specs.declared.words.Words.TheInside as bar
 use Rattle.slot_words.specs.declared.pass.Pass.TheInside.{Inside}

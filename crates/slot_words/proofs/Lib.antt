@@ -2,6 +2,7 @@ pub mod AllowLemmas
 pub mod BankLemmas
 pub mod Example
 pub mod HeldLemmas
+pub mod lemmas
 pub mod LinkLemmas
 pub mod LookLemmas
 pub mod MadeLemmas
@@ -10,7 +11,5 @@ pub mod OwnLemmas
 pub mod PackedLemmas
 pub mod PlainLemmas
 pub mod SentLemmas
-pub mod SoundLemmas
 pub mod StepLemmas
-pub mod TimeLemmas
 pub mod WordLemmas

@@ -9,7 +9,7 @@ use Rattle.image_defs.specs.declared.image.Image.{Image}
 use Rattle.image_defs.specs.declared.image.LinkIn.{LinkIn}
 use Rattle.image_defs.specs.declared.image.LinkOut.{LinkOut}
 use Rattle.image_defs.specs.declared.image.PortImage.{PortImage}
-use Rattle.event_defs.proofs.PaceLemmas.{same_receipt, same_send}
+use Rattle.event_defs.proofs.lemmas.PaceLemmas.{same_receipt, same_send}
 use Rattle.event_defs.specs.Places.{IsSend}
 use Rattle.slot_words.specs.declared.links.Link.{Link}
 use Rattle.slot_words.specs.Layout.{send_word}

@@ -9,7 +9,7 @@ use Rattle.image_defs.specs.declared.image.Image.{Image}
 use Rattle.event_defs.specs.Row.{send_number, word_place}
 use Rattle.event_defs.specs.declared.place.Place.{Place}
 use Rattle.slot_words.proofs.OwnLemmas.{only_one, within}
-use Rattle.slot_words.proofs.SoundLemmas.{told_none}
+use Rattle.slot_words.proofs.lemmas.SoundLemmas.{told_none}
 use Rattle.slot_words.specs.declared.rule.TheConstants.{UNCLAIMED}
 use Rattle.slot_words.specs.declared.rule.View.{View}
 use Rattle.slot_words.specs.Layout.{progress_in, send_word, told_in, turns_told}

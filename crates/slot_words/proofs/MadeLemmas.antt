@@ -10,8 +10,8 @@ use Rattle.image_defs.specs.declared.image.Image.{Image}
 use Rattle.image_defs.specs.declared.image.LinkIn.{LinkIn}
 use Rattle.image_defs.specs.declared.image.LinkOut.{LinkOut}
 use Rattle.image_defs.specs.declared.image.PortImage.{PortImage}
-use Rattle.event_defs.proofs.PaceLemmas.{same_port}
-use Rattle.event_defs.proofs.RowLemmas.{number_within, send_within}
+use Rattle.event_defs.proofs.lemmas.PaceLemmas.{same_port}
+use Rattle.event_defs.proofs.lemmas.RowLemmas.{number_within, send_within}
 use Rattle.event_defs.specs.Row.{sends_before}
 use Rattle.event_defs.proofs.SourceLemmas.{before_few, entry_there, outs_few}
 use Rattle.event_defs.specs.Sources.{AreFirsts, IsSource}

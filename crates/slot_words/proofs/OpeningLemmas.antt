@@ -7,15 +7,15 @@ use Rattle.std.proofs.Math.Seq.{drop-append_seam}
 use Rattle.std.proofs.lemmas.List.{get_or-replicate, get_or_append_left, length-replicate, length_push}
 use Rattle.image_defs.specs.WellFormed.{IsWellFormed}
 use Rattle.image_defs.specs.declared.image.Image.{Image}
-use Rattle.event_defs.proofs.PaceLemmas.{starts}
-use Rattle.event_defs.proofs.RowLemmas.{words_zero}
+use Rattle.event_defs.proofs.lemmas.PaceLemmas.{starts}
+use Rattle.event_defs.proofs.lemmas.RowLemmas.{words_zero}
 use Rattle.event_defs.specs.Places.{start}
 use Rattle.event_defs.specs.Row.{send_count, word_in}
 use Rattle.event_defs.proofs.SourceLemmas.{before_few}
 use Rattle.slot_words.proofs.LookLemmas.{looks_first}
 use Rattle.slot_words.proofs.OwnLemmas.{owned_first}
 use Rattle.slot_words.proofs.SentLemmas.{starts_sent}
-use Rattle.slot_words.proofs.TimeLemmas.{progress_within}
+use Rattle.slot_words.proofs.lemmas.TimeLemmas.{progress_within}
 use Rattle.slot_words.specs.declared.feed.Feed.{Ghosts}
 use Rattle.slot_words.specs.declared.words.Words.TheInside as bar
 use Rattle.slot_words.specs.declared.rule.TheConstants.{UNCLAIMED}

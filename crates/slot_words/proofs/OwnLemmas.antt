@@ -5,7 +5,7 @@ use mathlib.Core.Option.{some, some-injective, some-ne-none}
 use lib.ListN.{get_elem?}
 use Rattle.atomic_table.proofs.Lists.{at_longer, at_set, at_snoc, set_else, set_here}
 use Rattle.image_defs.specs.declared.image.Image.{Image}
-use Rattle.event_defs.proofs.SlotLemmas.{updated_here, updated_there}
+use Rattle.event_defs.proofs.lemmas.SlotLemmas.{updated_here, updated_there}
 use Rattle.event_defs.specs.Places.{start}
 use Rattle.event_defs.specs.Steps.{updated}
 use Rattle.event_defs.specs.declared.place.Place.{Place}

@@ -13,14 +13,14 @@ use Rattle.image_defs.specs.Places.{Stands}
 use Rattle.image_defs.specs.declared.image.Image.{Image}
 use Rattle.image_defs.specs.declared.image.LinkOut.{LinkOut}
 use Rattle.image_defs.specs.declared.image.PortImage.{PortImage}
-use Rattle.event_defs.proofs.WordLemmas.{first_coded, put_coded}
-use Rattle.event_defs.proofs.WordLemmas as plain
+use Rattle.event_defs.proofs.lemmas.WordLemmas.{first_coded, put_coded}
+use Rattle.event_defs.proofs.lemmas.WordLemmas as plain
 use Rattle.event_defs.specs.Places.{IsSend, after_put, known_of, latest}
 use Rattle.event_defs.specs.Sound.{AreCoded, AreStamped, AreStamps, IsCoded}
 use Rattle.event_defs.specs.Steps as plain_stamp
 use Rattle.atomic_table.specs.Table.{State}
 use Rattle.slot_words.proofs.AllowLemmas as bank
-use Rattle.slot_words.proofs.SoundLemmas.{counts, unclaimed_is}
+use Rattle.slot_words.proofs.lemmas.SoundLemmas.{counts, unclaimed_is}
 use Rattle.slot_words.proofs.WordLemmas.{read_back}
 use Rattle.slot_words.specs.Layout.{progress_in, send_word, sent_in, turns_told}
 use Rattle.slot_words.specs.Passes.{CanPutIn, HasPut, HasTaken, IsNumber}

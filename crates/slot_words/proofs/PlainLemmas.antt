@@ -6,13 +6,13 @@ use Rattle.logic_four.specs.declared.V4.{V4}
 use Rattle.net_defs.specs.declared.stimulus.Stimulus.{Stimulus}
 use Rattle.image_defs.specs.Frames.{image_value}
 use Rattle.image_defs.specs.declared.image.Image.{Image}
-use Rattle.event_defs.proofs.WordLemmas.{decoded, first_coded, put_coded, stamp_in}
+use Rattle.event_defs.proofs.lemmas.WordLemmas.{decoded, first_coded, put_coded, stamp_in}
 use Rattle.event_defs.specs.Places.{after_put}
 use Rattle.event_defs.specs.Sound.{AreStamps, IsCoded}
 use Rattle.event_defs.specs.Steps.{stamp_of}
 use Rattle.atomic_table.specs.Table.{State}
 use Rattle.slot_words.proofs.BankLemmas.{turn_in}
-use Rattle.slot_words.proofs.SoundLemmas.{counts, unclaimed_is}
+use Rattle.slot_words.proofs.lemmas.SoundLemmas.{counts, unclaimed_is}
 use Rattle.slot_words.specs.Layout.{send_word}
 use Rattle.slot_words.specs.Passes.{HasPut, HasTaken, IsNumber, WasSentBefore}
 use Rattle.slot_words.specs.Rule.{AreBanked}

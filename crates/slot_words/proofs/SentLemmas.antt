@@ -5,10 +5,10 @@ use Rattle.std.proofs.lemmas.Bool.{cases_eq, cases_lt}
 use Rattle.image_defs.specs.WellFormed.{IsWellFormed}
 use Rattle.image_defs.specs.declared.image.Image.{Image}
 use Rattle.image_defs.specs.declared.image.LinkOut.{LinkOut}
-use Rattle.event_defs.proofs.PaceLemmas.{latest_here, latest_missing, latest_there, one_send, same_send}
-use Rattle.event_defs.proofs.SlotLemmas.{each_updated, updated_here, updated_there}
-use Rattle.event_defs.proofs.StampLemmas.{written_here, written_there}
-use Rattle.event_defs.proofs.WordLemmas.{other_bank}
+use Rattle.event_defs.proofs.lemmas.PaceLemmas.{latest_here, latest_missing, latest_there, one_send, same_send}
+use Rattle.event_defs.proofs.lemmas.SlotLemmas.{each_updated, updated_here, updated_there}
+use Rattle.event_defs.proofs.lemmas.StampLemmas.{written_here, written_there}
+use Rattle.event_defs.proofs.lemmas.WordLemmas.{other_bank}
 use Rattle.event_defs.specs.Places.{IsSend, after_put, is_in, latest, start}
 use Rattle.event_defs.specs.Steps.{updated, written}
 use Rattle.event_defs.specs.declared.place.Place.{Place}

@@ -12,9 +12,9 @@ use Rattle.image_defs.specs.declared.image.Image.{Image}
 use Rattle.image_defs.specs.declared.image.LinkIn.{LinkIn}
 use Rattle.image_defs.specs.declared.image.LinkOut.{LinkOut}
 use Rattle.image_defs.specs.declared.image.PortImage.{PortImage}
-use Rattle.event_defs.proofs.PaceLemmas.{latest_put, one_send, same_send, send_at, source}
-use Rattle.event_defs.proofs.RowLemmas.{same_number, same_place, send_within, word_at}
-use Rattle.event_defs.proofs.SlotLemmas.{updated_same}
+use Rattle.event_defs.proofs.lemmas.PaceLemmas.{latest_put, one_send, same_send, send_at, source}
+use Rattle.event_defs.proofs.lemmas.RowLemmas.{same_number, same_place, send_within, word_at}
+use Rattle.event_defs.proofs.lemmas.SlotLemmas.{updated_same}
 use Rattle.event_defs.specs.Next.{EndsNext}
 use Rattle.event_defs.specs.Places.{IsSend, after_ask, after_put, after_take, after_tell, is_in, known_of, latest}
 use Rattle.event_defs.specs.Row.{send_number, word_place}
@@ -24,8 +24,8 @@ use Rattle.event_defs.specs.declared.place.Place.{Place}
 use Rattle.slot_words.proofs.LookLemmas.{looks_claimed, looks_split, looks_stepped, told_progress, told_sent}
 use Rattle.slot_words.proofs.OwnLemmas.{SameClaims, owned_claimed, owned_split, owned_stepped}
 use Rattle.slot_words.proofs.SentLemmas.{found_sent, sent_put, sent_still}
-use Rattle.slot_words.proofs.SoundLemmas.{counts, told_some}
-use Rattle.slot_words.proofs.TimeLemmas.{progress_kept, progress_set, send_room, sent_set, turns_ask, turns_claim, turns_put, turns_take, turns_tell}
+use Rattle.slot_words.proofs.lemmas.SoundLemmas.{counts, told_some}
+use Rattle.slot_words.proofs.lemmas.TimeLemmas.{progress_kept, progress_set, send_room, sent_set, turns_ask, turns_claim, turns_put, turns_take, turns_tell}
 use Rattle.slot_words.specs.Feeds.{AreFew, TellsTurns}
 use Rattle.slot_words.specs.Layout.{progress_in, send_word, sent_in, told_in, turns_told}
 use Rattle.slot_words.specs.Passes.{WasSentBefore}

@@ -5,8 +5,8 @@ use Rattle.std.proofs.lemmas.Bool.{cond-true, cond-false, cases_Bool}
 use Rattle.std.proofs.lemmas.List.{take_more, take_all, map-append, length-map}
 use Rattle.limits.specs.declared.TheConstants.{MAX_CYCLES}
 use Rattle.text_lines.specs.Answers.{first}
-use Rattle.text_lines.proofs.AnswerLemmas.{first-zero, first_none_more, first_some}
-use Rattle.text_lines.proofs.LineLemmas.{IsNextLine}
+use Rattle.text_lines.proofs.lemmas.AnswerLemmas.{first-zero, first_none_more, first_some}
+use Rattle.text_lines.proofs.lemmas.LineLemmas.{IsNextLine}
 use Rattle.net_defs.specs.declared.stimulus.StimRow.{StimRow}
 use Rattle.net_defs.specs.declared.stimulus.Stimulus.{Stimulus}
 use Rattle.stim_text.specs.declared.lane_line.LaneLine.{LaneLine}

@@ -14,7 +14,7 @@ use Rattle.list_laws.proofs.Places.{drop_here}
 use Rattle.limits.specs.declared.TheConstants.{LANES, MAX_CYCLES}
 use Rattle.text_lines.specs.Answers.{first}
 use Rattle.text_lines.specs.Lines.{parts_of}
-use Rattle.text_lines.proofs.AnswerLemmas.{first_none, none_below}
+use Rattle.text_lines.proofs.lemmas.AnswerLemmas.{first_none, none_below}
 use Rattle.net_defs.specs.declared.stimulus.StimRow.{StimRow}
 use Rattle.net_defs.specs.declared.stimulus.Stimulus.{Stimulus}
 use Rattle.net_defs.specs.Valid.{IsValidStimulus}

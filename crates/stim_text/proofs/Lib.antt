@@ -1,8 +1,8 @@
 mod CutLemmas
-pub mod LaneLemmas
 mod LaneLoopLemmas
 mod LaneTextLemmas
 mod LawLemmas
+pub mod lemmas
 mod OrderLemmas
 mod ReadingLemmas
 mod RepeatLemmas

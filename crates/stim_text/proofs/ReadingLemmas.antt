@@ -7,8 +7,8 @@ use Rattle.std.proofs.lemmas.List.{take_more, take_all, take-append-drop}
 use Rattle.std.proofs.lemmas.List.Elements.{filter_map-append, All-from_get_or, All-nil, All-cons, All-head, All-tail}
 use Rattle.std.proofs.lemmas.List.Sums.{sum_by-append}
 use Rattle.text_lines.specs.Answers.{first}
-use Rattle.text_lines.proofs.AnswerLemmas.{first-zero, first_none, first_none_more, first_some, none_below}
-use Rattle.text_lines.proofs.LineLemmas.{IsNextLine}
+use Rattle.text_lines.proofs.lemmas.AnswerLemmas.{first-zero, first_none, first_none_more, first_some, none_below}
+use Rattle.text_lines.proofs.lemmas.LineLemmas.{IsNextLine}
 use Rattle.stim_text.specs.Repeats.{fault_at, first_fault_of}
 
 -- ---- one line more

@@ -1,5 +1,4 @@
+pub mod lemmas
 pub mod LinkLemmas
-pub mod ListLemmas
 pub mod OrderLemmas
-pub mod SameLemmas
 pub mod SwitchLemmas

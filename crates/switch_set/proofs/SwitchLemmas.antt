@@ -18,12 +18,12 @@ use Rattle.plan_defs.specs.Homes.{AreHomes, home_of, ports_of}
 use Rattle.plan_defs.specs.Readers.{IsReader, IsReaderList}
 use Rattle.plan_defs.specs.Slots.{slot_of, IsFirstFitPlan}
 use Rattle.plan_defs.specs.Switches.{IsSendingOf, IsSent, IsReceiptOf, IsSwitch}
-use Rattle.plan_defs.proofs.PlanLemmas.{one_at_home, one_received}
-use Rattle.plan_defs.proofs.PortLemmas.{home_port, reader_port}
+use Rattle.plan_defs.proofs.lemmas.PlanLemmas.{one_at_home, one_received}
+use Rattle.plan_defs.proofs.lemmas.PortLemmas.{home_port, reader_port}
 use Rattle.switch_set.specs.declared.order.Placed.{Placed}
 use Rattle.switch_set.specs.code.Links.{links_at, Links, AreSendsOf, AreReceiptsOf, AreLinked}
 use Rattle.switch_set.specs.Order.{items_of, IsPlaced, IsSlotOrder}
-use Rattle.switch_set.proofs.ListLemmas.{among, listed_same, listed_more}
+use Rattle.switch_set.proofs.lemmas.ListLemmas.{among, listed_same, listed_more}
 
 module _ (nodes : NodeNet) (homes : Homes) (plan : Plan) (formed : IsWellFormed nodes) (are : AreHomes nodes homes) (fit : IsFirstFitPlan nodes homes plan)
     (order : List Placed) (is : IsSlotOrder plan.slots order) (k : ℕ) (placed : Placed) (at : slice_get order k ≡ Some placed) where

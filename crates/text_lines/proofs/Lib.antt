@@ -1,4 +1,3 @@
-pub mod AnswerLemmas
-pub mod LineLemmas
-pub mod PartLemmas
+pub mod FaultLemmas
+pub mod lemmas
 pub mod WordLemmas

@@ -9,7 +9,7 @@ use Rattle.std.proofs.lemmas.List.Sums.{prefix_len-le-length, fails_before_first
 use Rattle.std.proofs.lemmas.List.Splits.{slice_split_first, slice_split_none}
 use Rattle.text_lines.specs.Bytes.{is_blank}
 use Rattle.text_lines.specs.Words.{is_nonempty, words_of}
-use Rattle.text_lines.proofs.AnswerLemmas.{none_is_not_some}
+use Rattle.text_lines.proofs.lemmas.AnswerLemmas.{none_is_not_some}
 
 -- where no element passes, all of them stand before the first that does
 pub before_first-none : {X : Type 0} (p : X → Bool) (xs : List X) → position p xs ≡ None → xs ≡ before_first p xs

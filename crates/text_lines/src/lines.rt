@@ -62,7 +62,7 @@ impl<'a> Iterator for Lines<'a> {
 }
 
 /// The first line, without its LF, and the text after it.
-#[tactic(auto, using(crate::proofs::LineLemmas::lines_of_first, crate::proofs::LineLemmas::lines_of_one))]
+#[tactic(auto, using(crate::proofs::lemmas::LineLemmas::lines_of_first, crate::proofs::lemmas::LineLemmas::lines_of_one))]
 fn split_line(text: &[u8]) -> (&[u8], &[u8])
     requires { 0 < length text.now }
     ensures lines { lines_of text.now ≡ result.0.now ∷ lines_of result.1.now }

@@ -14,7 +14,7 @@ use net_defs::{CellRow, Netlist};
 
 /// Writes the header with the netlist's printed names, and then the line of each cycle, one line a piece. It takes
 /// no memory.
-#[tactic(auto, using(edge_io::proofs::WritingLemmas::writes_stop))]
+#[tactic(auto, using(edge_io::proofs::lemmas::WritingLemmas::writes_stop))]
 pub fn write_trace<O: Sink>(
     out: &mut O,
     net: &Netlist,

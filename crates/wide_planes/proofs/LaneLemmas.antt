@@ -3,9 +3,9 @@ use Rattle.std.proofs.Common.{◌≡◌, ◌∙◌, ℕ, ◌+◌, ◌*◌, ◌/�
 use Rattle.std.proofs.lemmas.Nat.Bits.{bit_at-lt}
 use Rattle.logic_four.specs.declared.V4.{V4}
 use Rattle.logic_four.specs.Values.{code_of, value_of}
-use Rattle.logic_four.proofs.TestLemmas.{same}
-use Rattle.lane_planes.proofs.BitLemmas.{value_of_bits}
-use Rattle.lane_planes.proofs.LaneLemmas.{bits, for_both, at_bit, of_bits, of_two_bits}
+use Rattle.logic_four.proofs.lemmas.TestLemmas.{same}
+use Rattle.lane_planes.proofs.lemmas.BitLemmas.{value_of_bits}
+use Rattle.lane_planes.proofs.lemmas.LaneLemmas.{bits, for_both, at_bit, of_bits, of_two_bits}
 use Rattle.wide_planes.specs.declared.planes.Words.{Words}
 use Rattle.wide_planes.specs.declared.planes.Wide.{Wide}
 use Rattle.wide_planes.specs.Lanes.{bit_of, lane_of}

@@ -9,7 +9,7 @@ use Rattle.yse_commands.specs.Ends.{MayWrite}
 use Rattle.yse_commands.specs.Outputs.{bytes_of}
 use Rattle.yse_commands.specs.Refusals.{ended_with}
 use Rattle.edge_io.specs.Writing.{TakesLine}
-use Rattle.edge_io.proofs.WritingLemmas.{writes_none, tells_written}
+use Rattle.edge_io.proofs.lemmas.WritingLemmas.{writes_none, tells_written}
 
 pub ended_status : (output : Output) → status_after (ending_in output) ≡ (ended_with output).status
 ended_status (output.Text text) = refl

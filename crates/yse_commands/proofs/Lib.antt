@@ -1,11 +1,8 @@
-pub mod AnswerLemmas
-pub mod ChainLemmas
 mod EndedLemmas
 pub mod EndingLemmas
 mod GateLemmas
 mod LaneLemmas
+pub mod lemmas
 mod PassingLemmas
 mod ShownLemmas
 mod TraceLemmas
-pub mod TracedLemmas
-pub mod VisitedLemmas

@@ -13,8 +13,8 @@ use Rattle.named_files.specs.Readings.{Reading}
 use Rattle.yse_commands.specs.Refusals.{Follows}
 use Rattle.named_files.specs.Refused.{refused_of}
 use Rattle.named_files.specs.Files.{AfterNetlist, AfterStimulus}
-use Rattle.named_files.proofs.ReadingLemmas.{readings_both}
-use Rattle.named_files.proofs.WeakerLemmas.{Implies, stimulus_so, timed_so}
+use Rattle.named_files.proofs.lemmas.ReadingLemmas.{readings_both}
+use Rattle.named_files.proofs.lemmas.WeakerLemmas.{Implies, stimulus_so, timed_so}
 use Rattle.named_files.proofs.PassingLemmas.{only_so}
 
 module _ (names : Option (List ℕ → Bool)) (bytes : Option (List ℕ → List ℕ)) where

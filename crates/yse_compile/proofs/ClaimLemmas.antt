@@ -6,7 +6,7 @@ use Rattle.node_defs.specs.declared.items.NodeNet.{NodeNet}
 use Rattle.plan_defs.specs.declared.plan.Homes.{Homes}
 use Rattle.plan_defs.specs.Homes.{ports_of}
 use Rattle.plan_defs.specs.Slots.{slot_of}
-use Rattle.switch_set.proofs.SameLemmas.{same_slots}
+use Rattle.switch_set.proofs.lemmas.SameLemmas.{same_slots}
 use Rattle.image_defs.specs.Places.{Each, item_slots}
 use Rattle.image_defs.specs.Matches.{claims_of, Matches}
 use Rattle.image_defs.specs.declared.file.Claims.{Claims}

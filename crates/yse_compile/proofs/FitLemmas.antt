@@ -13,15 +13,15 @@ use Rattle.plan_defs.specs.Picks.{ArePicked, FindsNoPort, HasTooManyNodes}
 use Rattle.plan_defs.specs.Slots.{IsFirstFitPlan}
 use Rattle.plan_defs.specs.Tables.{UsesTable, UsesTables, FitsTables, slot_limit, table_limit}
 use Rattle.slot_plan.specs.Refusals.{IsCrowded, IsLong}
-use Rattle.switch_set.proofs.SameLemmas.{one_lists}
+use Rattle.switch_set.proofs.lemmas.SameLemmas.{one_lists}
 use Rattle.yse_compile.specs.Chosen.{HomesFit}
 use Rattle.yse_compile.specs.declared.compiler.CompNo.{CompNo}
 use Rattle.yse_compile.specs.declared.compiler.CompNo.TheVariants.{Bits, Nodes, Slots, Functions}
 use Rattle.yse_compile.specs.Designs.{IsAcyclic, DesignFits}
 use Rattle.yse_compile.specs.Compiled.{IsRight, IsOverfull}
-use Rattle.image_check.proofs.KnownLemmas.{first_or_all}
-use Rattle.yse_compile.proofs.SamePlans.{plan_kept}
-use Rattle.yse_compile.proofs.SameTables.{tables_few}
+use Rattle.image_check.proofs.lemmas.KnownLemmas.{first_or_all}
+use Rattle.yse_compile.proofs.lemmas.SamePlans.{plan_kept}
+use Rattle.yse_compile.proofs.lemmas.SameTables.{tables_few}
 
 -- ---- items at their homes have a plan that fits, or are refused
 

@@ -22,7 +22,7 @@ use Rattle.home_pick.specs.code.Rooms.{limits_of, LacksBits, IsMostLeft, AreFill
 use Rattle.home_pick.proofs.FillLemmas.{filled_none, filled_more, none_found, left_none, left_more, bits_read, some_bits}
 use Rattle.home_pick.proofs.HomeLemmas.{picked_are, ports_more, computed_last, node_room_left, source_first}
 use Rattle.home_pick.proofs.TurnLemmas.{turned_none, turned_before, turned_more, in_turn, room_left, some_unspent}
-use Rattle.image_check.proofs.KnownLemmas.{known_less}
+use Rattle.image_check.proofs.lemmas.KnownLemmas.{known_less}
 use Rattle.yse_compile.proofs.KnownLemmas.{least_or_all}
 
 -- the most that is left on the first n array ports

@@ -28,7 +28,7 @@ use Rattle.plan_defs.specs.declared.switch.Switch.{Switch}
 use Rattle.plan_defs.specs.Homes.{home_of, host_of, ports_of}
 use Rattle.plan_defs.specs.Slots.{slot_of}
 use Rattle.plan_defs.specs.Switches.{IsSwitch}
-use Rattle.plan_defs.proofs.PlanLemmas.{one_at_home}
+use Rattle.plan_defs.proofs.lemmas.PlanLemmas.{one_at_home}
 use Rattle.image_defs.specs.declared.image.Task.{Task}
 use Rattle.image_defs.specs.declared.image.Task.TheVariants.{Eval, Hold}
 use Rattle.image_defs.specs.declared.image.BlockWork.{BlockWork}
@@ -42,8 +42,8 @@ use Rattle.image_defs.specs.Matches.{claims_of}
 use Rattle.image_defs.specs.declared.file.Claims.{Claims}
 use Rattle.image_defs.specs.declared.file.PortClaims.{PortClaims}
 use Rattle.image_defs.specs.Claimed.{lists_of}
-use Rattle.image_check.proofs.KnownLemmas.{known_both, known_less, known_member}
-use Rattle.image_check.proofs.MatchKnown.{alike_known}
+use Rattle.image_check.proofs.lemmas.KnownLemmas.{known_both, known_less, known_member}
+use Rattle.image_check.proofs.lemmas.MatchKnown.{alike_known}
 use Rattle.image_file.specs.Ranges.{tables_of}
 use Rattle.image_build.specs.PortItems.{IsAt, ArePortItems, ArePlanClaims}
 use Rattle.image_build.specs.Plans.{IsPlanned}
@@ -57,7 +57,7 @@ use Rattle.image_build.proofs.MemoryLemmas.{blocks_more, numbers_low}
 use Rattle.image_build.proofs.PlannedLemmas.{at_place, computed_at, input_at_host}
 use Rattle.image_build.proofs.PortLemmas.{ports_none, ports_more}
 use Rattle.image_build.proofs.TaskLemmas.{tasks_more}
-use Rattle.yse_compile.proofs.SwitchExists.{listed_by_slot}
+use Rattle.yse_compile.proofs.lemmas.SwitchExists.{listed_by_slot}
 
 -- ---- the items of each port
 

@@ -21,9 +21,9 @@ use Rattle.node_defs.specs.declared.items.NodeNet.{NodeNet}
 use Rattle.node_defs.specs.Items.{own, IsNamed, IsItem, IsItemOf}
 use Rattle.node_defs.specs.Order.{class_of, Key, key_of, Before, AreItems}
 use Rattle.node_defs.specs.WellFormed.{is_input, column_count}
-use Rattle.node_defs.proofs.NameLemmas.{name_at as name_of, name_there, NamedItem, named_item}
-use Rattle.plan_defs.proofs.CountLemmas.{few_partners}
-use Rattle.plan_defs.proofs.WellFormedLemmas.{well_formed, is_column}
+use Rattle.node_defs.proofs.lemmas.NameLemmas.{name_at as name_of, name_there, NamedItem, named_item}
+use Rattle.plan_defs.proofs.lemmas.CountLemmas.{few_partners}
+use Rattle.plan_defs.proofs.lemmas.WellFormedLemmas.{well_formed, is_column}
 
 -- ---- lists whose members that pass come first
 

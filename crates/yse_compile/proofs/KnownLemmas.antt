@@ -1,7 +1,7 @@
 -- The least number that is free, and the numbers that have a property, where it is known of each.
 use Rattle.std.proofs.Common.{◌⊎◌, inl, inr, ℕ, zero, suc, ◌<◌, List, [], ◌∷◌, ◌++◌, subst}
 use Rattle.std.proofs.Math.Numerals.{add-one}
-use Rattle.image_check.proofs.KnownLemmas.{IsKnown, first_or_all}
+use Rattle.image_check.proofs.lemmas.KnownLemmas.{IsKnown, first_or_all}
 use Rattle.plan_defs.specs.Lists.{IsLeastFree}
 use Rattle.plan_defs.specs.code.Lists.{ListsBelow}
 use Rattle.plan_defs.proofs.ListLemmas.{listed_none, listed_more, listed_not}

@@ -16,7 +16,7 @@ use Rattle.image_defs.specs.declared.image.PortImage.{PortImage}
 use Rattle.image_defs.specs.Places.{IsPort}
 use Rattle.image_build.specs.Built.{IsBuilt, link_out, link_in, AreLinksOf}
 use Rattle.yse_compile.specs.declared.compiler.Compiled.{Compiled}
-use Rattle.yse_compile.proofs.SamePlans.{plan_kept}
+use Rattle.yse_compile.proofs.lemmas.SamePlans.{plan_kept}
 use Rattle.yse_compile.proofs.SameSwitches.{same_sends, same_receipts}
 
 -- items in their first-fit plan, with the switch's settings and the image that is built of them

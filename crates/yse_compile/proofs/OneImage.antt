@@ -30,7 +30,7 @@ use Rattle.yse_compile.specs.declared.compiler.Compiled.{Compiled}
 use Rattle.yse_compile.specs.Claims.{AreClaimsOf}
 use Rattle.yse_compile.proofs.ClaimLemmas.{one_claims}
 use Rattle.yse_compile.proofs.ImageExists.{words_decide}
-use Rattle.yse_compile.proofs.SamePlans.{plan_kept}
+use Rattle.yse_compile.proofs.lemmas.SamePlans.{plan_kept}
 
 -- claims of the same lists are the same
 same_claims : (one other : Claims) → lists_of one ≡ lists_of other → one ≡ other

@@ -5,7 +5,7 @@ use Rattle.std.proofs.lemmas.List.{get_or-take, length-take-le}
 use Rattle.machine_text.specs.declared.machine.Machine.{Machine}
 use Rattle.node_defs.specs.declared.items.NodeNet.{NodeNet}
 use Rattle.plan_defs.specs.Picks.{bits_of, bit_limit, bits_left, LacksRoom, AreHoused, FindsNoPort}
-use Rattle.plan_defs.proofs.PlanLemmas.{least_same}
+use Rattle.plan_defs.proofs.lemmas.PlanLemmas.{least_same}
 use Rattle.home_pick.proofs.FillLemmas.{bits_same}
 
 module _ (nodes : NodeNet) (machine : Machine) where

@@ -10,14 +10,14 @@ use Rattle.limits.specs.declared.TheConstants.{MAX_ARRAY_BITS}
 use Rattle.machine_text.specs.declared.machine.Limited.TheVariants.{Bits}
 use Rattle.machine_text.specs.declared.machine.Machine.{Machine}
 use Rattle.machine_text.specs.Machines.{IsValid}
-use Rattle.machine_text.proofs.LimitLemmas.{limit_in_range}
+use Rattle.machine_text.proofs.lemmas.LimitLemmas.{limit_in_range}
 use Rattle.node_defs.specs.declared.items.NodeBlock.{NodeBlock}
 use Rattle.node_defs.specs.declared.items.NodeNet.{NodeNet}
 use Rattle.plan_defs.specs.declared.plan.Homes.{Homes}
 use Rattle.plan_defs.specs.code.Lists.{ListsBelow}
 use Rattle.plan_defs.specs.Picks.{bits_of, bits_before, bit_limit, AreHoused}
 use Rattle.plan_defs.proofs.ListLemmas.{listed_none, listed_more, listed_not, listed_all}
-use Rattle.switch_set.proofs.SameLemmas.{one_lists}
+use Rattle.switch_set.proofs.lemmas.SameLemmas.{one_lists}
 use Rattle.home_pick.proofs.FillLemmas.{bits_at, bits_more, bits_read}
 use Rattle.image_defs.specs.declared.image.BlockWork.{BlockWork}
 use Rattle.image_defs.specs.declared.image.LinkIn.{LinkIn}

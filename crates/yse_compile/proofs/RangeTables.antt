@@ -10,7 +10,7 @@ use Rattle.list_laws.proofs.Options.{one_some}
 use Rattle.machine_text.specs.declared.machine.Limited.TheVariants.{Functions}
 use Rattle.machine_text.specs.declared.machine.Machine.{Machine}
 use Rattle.machine_text.specs.Machines.{IsValid}
-use Rattle.machine_text.proofs.LimitLemmas.{limit_in_range}
+use Rattle.machine_text.proofs.lemmas.LimitLemmas.{limit_in_range}
 use Rattle.func_table.specs.declared.table.Table.{Table}
 use Rattle.func_table.specs.Entries.{AreAlike, entry_of}
 use Rattle.node_defs.specs.declared.items.Item.{Item}
@@ -19,7 +19,7 @@ use Rattle.node_defs.specs.declared.items.NodeNet.{NodeNet}
 use Rattle.plan_defs.specs.declared.plan.Homes.{Homes}
 use Rattle.plan_defs.specs.Homes.{home_of}
 use Rattle.plan_defs.specs.Tables.{UsesTable, FitsTables}
-use Rattle.plan_defs.proofs.CountLemmas.{few_partners}
+use Rattle.plan_defs.proofs.lemmas.CountLemmas.{few_partners}
 use Rattle.image_defs.specs.declared.image.Source.{Source}
 use Rattle.image_defs.specs.declared.image.Task.{Task}
 use Rattle.image_defs.specs.declared.image.Task.TheVariants.{Eval}

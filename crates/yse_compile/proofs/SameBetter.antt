@@ -12,11 +12,11 @@ use Rattle.node_defs.specs.Same.{AreSameItems}
 use Rattle.plan_defs.specs.declared.plan.Homes.{Homes}
 use Rattle.plan_defs.specs.Homes.{home_of, block_home, host_of, ports_of}
 use Rattle.plan_defs.specs.Picks.{node_count, nodes_before}
-use Rattle.home_better.specs.Bags.{flag, where_at}
-use Rattle.home_better.specs.Better.{load_at, most_load, fair_share, bound_of, most_at, has_room, first_least, best_port, settled, node_numbers, pass, passes, IsBetter}
-use Rattle.home_better.specs.Crossings.{times_in, item_uses, maybe_item_uses, uses_by, memory_uses, block_uses, uses_at, readers_at, crossings, moved}
+use Rattle.home_pick.specs.Bags.{flag, where_at}
+use Rattle.home_pick.specs.Better.{load_at, most_load, fair_share, bound_of, most_at, has_room, first_least, best_port, settled, node_numbers, pass, passes, IsBetter}
+use Rattle.home_pick.specs.Crossings.{times_in, item_uses, maybe_item_uses, uses_by, memory_uses, block_uses, uses_at, readers_at, crossings, moved}
 use Rattle.yse_compile.proofs.NodeLemmas.{nodes_kept}
-use Rattle.yse_compile.proofs.SameItems.{carried, partner}
+use Rattle.yse_compile.proofs.lemmas.SameItems.{carried, partner}
 
 -- ---- the definitions over what they ask of the items
 

@@ -5,7 +5,7 @@ use Rattle.std.specs.List.{Contains}
 use Rattle.std.specs.List.Sorted.{IsStrictlyIncreasing}
 use Rattle.std.proofs.lemmas.Option.{slice_get-map, get_or_from_slice_get}
 use Rattle.list_laws.proofs.Members.{member_at, listed}
-use Rattle.image_defs.proofs.PlaceLemmas.{rises}
+use Rattle.image_defs.proofs.lemmas.PlaceLemmas.{rises}
 use Rattle.node_defs.specs.declared.items.NodeNet.{NodeNet}
 use Rattle.node_defs.specs.Same.{AreSameItems}
 use Rattle.plan_defs.specs.declared.plan.Homes.{Homes}
@@ -14,7 +14,7 @@ use Rattle.plan_defs.specs.declared.switch.Receipt.{Receipt}
 use Rattle.plan_defs.specs.Lists.{Lists}
 use Rattle.plan_defs.specs.Readers.{IsReader, IsReaderList}
 use Rattle.plan_defs.specs.Switches.{AreSends, AreReceipts}
-use Rattle.yse_compile.proofs.SamePlans.{reader_kept}
+use Rattle.yse_compile.proofs.lemmas.SamePlans.{reader_kept}
 
 -- ---- lists in ascending order with the same members
 

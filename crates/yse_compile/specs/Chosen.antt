@@ -14,8 +14,8 @@ use Rattle.plan_defs.specs.Picks.{ArePicked, AreHoused}
 use Rattle.plan_defs.specs.Slots.{IsFirstFitPlan}
 use Rattle.plan_defs.specs.Switches.{IsSwitch}
 use Rattle.plan_defs.specs.Tables.{Fits}
-use Rattle.home_better.specs.Better.{IsBetter}
-use Rattle.home_better.specs.Crossings.{crossings}
+use Rattle.home_pick.specs.Better.{IsBetter}
+use Rattle.home_pick.specs.Crossings.{crossings}
 use Rattle.image_build.specs.Built.{IsBuilt}
 use Rattle.yse_compile.specs.declared.compiler.Compiled.{Compiled}
 use Rattle.yse_compile.specs.declared.choose.Chosen.{Chosen}

@@ -1,7 +1,7 @@
 //! The homes that a choice uses, and the plan by which they fit.
 
 ghost use Rattle.std.specs.Prelude.{◌≡◌, ◌≤◌, ◌⊎◌, IfOk, IfErr, IfSome, IsNone};
-ghost use Rattle.home_better.specs.Crossings.{crossings};
+ghost use Rattle.home_pick.specs.Crossings.{crossings};
 ghost use Rattle.limits.specs.declared.TheConstants.{MAX_SLOTS};
 ghost use Rattle.machine_text.specs.Machines.{IsValid as IsValidMachine};
 ghost use Rattle.net_defs.specs.declared.homes.HomeChoice.TheVariants.{Plain, Better};
@@ -17,8 +17,8 @@ ghost use Rattle.yse_compile.specs.code.Passes.{AreHomesOn, AreHoused, IsBestUnf
 use crate::compiler::Compiled;
 use crate::law::planned_or_refused;
 use crate::passes::{Housed, Planned, plan};
-use home_better::better;
-use home_better::law::crossings_are_readers;
+use home_pick::better;
+use home_pick::law::crossings_are_readers;
 use machine_text::Machine;
 use net_defs::HomeChoice;
 use node_defs::NodeNet;

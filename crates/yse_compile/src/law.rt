@@ -8,10 +8,10 @@ ghost use Rattle.image_defs.specs.declared.file.Claims.{Claims};
 ghost use Rattle.image_defs.specs.declared.image.Image.{Image};
 ghost use Rattle.machine_text.specs.declared.machine.Machine.{Machine};
 ghost use Rattle.machine_text.specs.Machines.{IsValid as IsValidMachine};
-ghost use Rattle.home_better.specs.Better.{IsBetter};
+ghost use Rattle.home_pick.specs.Better.{IsBetter};
 ghost use Rattle.home_pick.specs.declared.pick.HomeNo.{HomeNo};
 ghost use Rattle.home_pick.specs.Refusals.{IsRight as LacksHomes};
-ghost use Rattle.home_better.specs.Crossings.{crossings};
+ghost use Rattle.home_pick.specs.Crossings.{crossings};
 ghost use Rattle.net_defs.specs.declared.homes.HomeChoice.{HomeChoice};
 ghost use Rattle.net_defs.specs.declared.netlist.Netlist.{Netlist};
 ghost use Rattle.net_defs.specs.declared.timing.Timing.{Timing};
@@ -43,8 +43,7 @@ ghost use Rattle.yse_compile.specs.Designs.{IsAcyclic, DesignFits};
 ghost use Rattle.yse_compile.specs.Designs.{LacksBits, LacksNodes, LacksSlots, LacksFunctions};
 
 use crate::inputs::same_inputs;
-use home_better::law::{one_better, some_better};
-use home_pick::law::{housed_or_refused, one_housing};
+use home_pick::law::{housed_or_refused, one_better, one_housing, some_better};
 use node_defs::law::one_list;
 use plan_defs::law::{items_are_well_formed, one_plan};
 

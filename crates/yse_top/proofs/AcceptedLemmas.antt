@@ -13,8 +13,8 @@ use Rattle.node_defs.specs.Order.{AreItems}
 use Rattle.node_defs.specs.Same.{AreSameItem, AreSameItems, IsSameTable}
 use Rattle.node_defs.specs.WellFormed.{IsWellFormed as IsWellFormedNet, NamesParts, column_count}
 use Rattle.node_defs.specs.declared.items.NodeBlock.{NodeBlock}
-use Rattle.node_defs.proofs.MemberLemmas.{member_at}
-use Rattle.yse_compile.proofs.SameItems.{carried, partner}
+use Rattle.node_defs.proofs.lemmas.MemberLemmas.{member_at}
+use Rattle.yse_compile.proofs.lemmas.SameItems.{carried, partner}
 use Rattle.large_run.proofs.TableLemmas.{same_entries}
 use Rattle.image_defs.specs.declared.image.Image.{Image}
 use Rattle.image_defs.specs.declared.image.BlockWork.{BlockWork}
@@ -44,7 +44,7 @@ use Rattle.named_files.specs.Readings.{Reading}
 use Rattle.yse_commands.specs.commands.Exec.{IsTaken, RunsImage}
 use Rattle.named_files.specs.Images.{IsAccepted, IsImageFileOf}
 use Rattle.yse_top.proofs.ProperLemmas.{IsCheck, IsOfText, alike, short_passes}
-use Rattle.yse_commands.proofs.TracedLemmas.{whole_text}
+use Rattle.yse_commands.proofs.lemmas.TracedLemmas.{whole_text}
 use Rattle.named_files.specs.Files.{AfterImage, AfterMatch}
 
 -- ---- what holds of an item of one list holds of that item of the other

@@ -15,9 +15,9 @@ use Rattle.named_files.specs.Outcome.{Outcome, Turns, telling}
 use Rattle.named_files.specs.Readings.{Reading, AreReadings}
 use Rattle.yse_commands.specs.Refusals.{Follows}
 use Rattle.named_files.specs.Refused.{refused_of}
-use Rattle.edge_io.proofs.WritingLemmas.{append_known-nil}
-use Rattle.yse_commands.proofs.ChainLemmas.{follows_here}
-use Rattle.yse_commands.proofs.VisitedLemmas.{refused_writes}
+use Rattle.edge_io.proofs.lemmas.WritingLemmas.{append_known-nil}
+use Rattle.yse_commands.proofs.lemmas.ChainLemmas.{follows_here}
+use Rattle.yse_commands.proofs.lemmas.VisitedLemmas.{refused_writes}
 
 module _ (names : Option (List ℕ → Bool)) (bytes : Option (List ℕ → List ℕ)) (old new : FileCounts) where
   -- they are of no form

@@ -19,8 +19,8 @@ use Rattle.yse_top.specs.Law.{IsProper, TellsWords}
 use Rattle.refusal_lines.specs.Lines.{write_fault_line}
 use Rattle.named_files.specs.Outcome.{Outcome, Turns}
 use Rattle.named_files.specs.Readings.{Reading}
-use Rattle.yse_commands.proofs.TracedLemmas.{AreAsTold, command_told, command_traced}
-use Rattle.yse_commands.proofs.VisitedLemmas.{whole_writes}
+use Rattle.yse_commands.proofs.lemmas.TracedLemmas.{AreAsTold, command_told, command_traced}
+use Rattle.yse_commands.proofs.lemmas.VisitedLemmas.{whole_writes}
 use Rattle.yse_top.proofs.EndLemmas.{absent_kept, completes, fault_rose}
 
 -- what may be written is no such status

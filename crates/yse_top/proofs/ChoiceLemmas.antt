@@ -16,13 +16,13 @@ use Rattle.plan_defs.specs.Homes.{AreHomes}
 use Rattle.plan_defs.specs.Picks.{ArePicked}
 use Rattle.plan_defs.specs.Slots.{IsFirstFitPlan}
 use Rattle.plan_defs.specs.Tables.{Fits}
-use Rattle.home_better.specs.Better.{IsBetter}
-use Rattle.home_better.specs.Crossings.{crossings}
+use Rattle.home_pick.specs.Better.{IsBetter}
+use Rattle.home_pick.specs.Crossings.{crossings}
 use Rattle.home_pick.proofs.HomeLemmas.{homes_are}
 use Rattle.yse_compile.specs.declared.choose.Chosen.{Chosen}
 use Rattle.yse_compile.specs.Chosen.{FitsBy, FitsEither, HomesFit, IsUsed}
 use Rattle.yse_compile.specs.Designs.{DesignFits}
-use Rattle.yse_compile.proofs.ChoiceLemmas.{better_are}
+use Rattle.yse_compile.proofs.lemmas.ChoiceLemmas.{better_are}
 
 -- homes that the choice gives, with a plan that fits
 pub record HasHomes (choice : HomeChoice) (net : Netlist) (machine : Machine) (timing : Timing) : Type 0 where

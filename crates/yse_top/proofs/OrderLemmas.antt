@@ -18,8 +18,8 @@ use Rattle.image_defs.specs.declared.image.Image.{Image}
 use Rattle.image_defs.specs.declared.image.PortImage.{PortImage}
 use Rattle.image_defs.specs.Places.{Each, IsPort}
 use Rattle.image_defs.specs.WellFormed.{IsWellFormed}
-use Rattle.image_check.proofs.KnownLemmas.{IsKnown, known_each, known_same}
-use Rattle.node_defs.proofs.MemberLemmas.{member_at}
+use Rattle.image_check.proofs.lemmas.KnownLemmas.{IsKnown, known_each, known_same}
+use Rattle.node_defs.proofs.lemmas.MemberLemmas.{member_at}
 use Rattle.event_defs.specs.Linked.{AreLinkedAlike}
 use Rattle.event_defs.specs.declared.place.Place.{Place}
 use Rattle.event_defs.specs.declared.place.CoreStep.{CoreStep}
@@ -27,7 +27,7 @@ use Rattle.event_defs.specs.Steps.{CoreState, AreFirstSteps, AllDone, rows_done}
 use Rattle.stim_text.specs.declared.order.Order.{Order}
 use Rattle.stim_text.specs.declared.order.OrderLine.{OrderLine}
 use Rattle.stim_text.specs.Orders.{IsValidOrder, steps_of}
-use Rattle.yse_compile.proofs.DesignExists.{HasDesign}
+use Rattle.yse_compile.proofs.lemmas.DesignExists.{HasDesign}
 use Rattle.yse_top.specs.Law.{HasOutcome}
 use Rattle.named_files.specs.Images.{IsMachineImage}
 use Rattle.yse_commands.specs.Orders.{IsAfterOrder, EndsIn, EndsInOrder}

@@ -10,7 +10,7 @@ use Rattle.yse_top.specs.Law.{AreAlike, AgreeOn, HasCause, IsProper}
 use Rattle.refusal_lines.specs.Lines.{too_long_line}
 use Rattle.named_files.specs.Outcome.{Outcome, Turns, done, refusal, out_of_memory, telling}
 use Rattle.named_files.specs.Readings.{Reading}
-use Rattle.yse_commands.proofs.AnswerLemmas.{never_both, passed_once, passes, refused_once, refuses}
+use Rattle.yse_commands.proofs.lemmas.AnswerLemmas.{never_both, passed_once, passes, refused_once, refuses}
 
 -- ---- outcomes
 

@@ -23,22 +23,22 @@ use Rattle.plan_defs.specs.Readers.{IsReader, IsReaderList}
 use Rattle.plan_defs.specs.Slots.{IsFirstFitPlan, slot_of}
 use Rattle.plan_defs.specs.Tables.{UsesTables}
 use Rattle.plan_defs.proofs.ListLemmas.{listed_all}
-use Rattle.plan_defs.proofs.PlanLemmas.{plans_agree}
+use Rattle.plan_defs.proofs.lemmas.PlanLemmas.{plans_agree}
 use Rattle.plan_text.specs.declared.figures.Figures.{Figures}
 use Rattle.plan_text.specs.Counted.{AreFigures, Receives, bits_at, items_at}
 use Rattle.plan_text.specs.Lines.{item_line, item_name, port_line, report_text}
 use Rattle.plan_text.specs.Reports.{IsReport}
-use Rattle.plan_text.proofs.OneLemmas.{flat_below, reports_agree}
-use Rattle.yse_compile.proofs.SwitchExists.{readers_there}
+use Rattle.plan_text.proofs.lemmas.OneLemmas.{flat_below, reports_agree}
+use Rattle.yse_compile.proofs.lemmas.SwitchExists.{readers_there}
 use Rattle.yse_compile.specs.declared.choose.Chosen.{Chosen}
 use Rattle.yse_compile.specs.Chosen.{HomesFit, IsUsed}
-use Rattle.image_check.proofs.KnownLemmas.{IsKnown, known_below, known_both, known_same}
+use Rattle.image_check.proofs.lemmas.KnownLemmas.{IsKnown, known_below, known_both, known_same}
 use Rattle.yse_compile.proofs.KnownLemmas.{listed_to}
-use Rattle.yse_compile.proofs.KnownUses.{reader_known}
-use Rattle.yse_compile.proofs.PlanExists.{slots_end, tables_counted}
-use Rattle.yse_compile.proofs.SameHomes.{before_kept}
-use Rattle.yse_compile.proofs.SamePlans.{plan_kept, reader_kept}
-use Rattle.yse_compile.proofs.SameTables.{tables_few}
+use Rattle.yse_compile.proofs.lemmas.KnownUses.{reader_known}
+use Rattle.yse_compile.proofs.lemmas.PlanExists.{slots_end, tables_counted}
+use Rattle.yse_compile.proofs.lemmas.SameHomes.{before_kept}
+use Rattle.yse_compile.proofs.lemmas.SamePlans.{plan_kept, reader_kept}
+use Rattle.yse_compile.proofs.lemmas.SameTables.{tables_few}
 use Rattle.yse_commands.specs.commands.Plan.{IsReportOf, crossings_line, told_of_homes}
 use Rattle.yse_top.proofs.ChoiceLemmas.{HasHomes}
 

@@ -41,7 +41,7 @@ use Rattle.yse_commands.specs.commands.Compile.{IsImageTextOf}
 use Rattle.yse_commands.specs.commands.Exec.{ExpectedExec, IsTaken, OnImage, RunsImage}
 use Rattle.yse_commands.specs.commands.Layout.{ExpectedLayout, IsSheetOf}
 use Rattle.yse_commands.specs.commands.Run.{ExpectedRun, RunsOn, RunsTo}
-use Rattle.yse_commands.proofs.AnswerLemmas.{never_both, passed_once}
+use Rattle.yse_commands.proofs.lemmas.AnswerLemmas.{never_both, passed_once}
 use Rattle.yse_top.specs.Sequel.{AreHeld, AreOfOneDesign, Leaves}
 use Rattle.yse_top.proofs.CheckLemmas.{trace_only}
 use Rattle.yse_top.proofs.ProperLemmas.{IsOfText, memory_status, passed_short, text_check}

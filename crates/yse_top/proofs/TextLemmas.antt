@@ -11,7 +11,7 @@ use Rattle.image_file.specs.Files.{image_text}
 use Rattle.yse_compile.specs.declared.choose.Chosen.{Chosen}
 use Rattle.yse_compile.specs.Chosen.{IsChosen}
 use Rattle.yse_compile.specs.Claims.{AreClaimsOf}
-use Rattle.yse_compile.proofs.DesignExists.{HasDesign}
+use Rattle.yse_compile.proofs.lemmas.DesignExists.{HasDesign}
 use Rattle.yse_commands.specs.commands.Compile.{IsImageTextOf}
 
 -- two designs that are chosen have one image, with one list of claims

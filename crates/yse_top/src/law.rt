@@ -20,7 +20,7 @@ use cmd_words::law::{forms_are_asked, forms_are_in_range};
 use cover_sim::one_coverage;
 use event_defs::law::{links_decide, steps_exist};
 use fault_sim::one_list as one_list_of_verdicts;
-use home_better::law::{one_better, some_better};
+use home_pick::law::{one_better, some_better};
 use image_check::law::matches_or_not;
 use image_file::law::reads_or_faults as images_or_faults;
 use large_run::law::one_summary;

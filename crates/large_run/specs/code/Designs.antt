@@ -1,7 +1,7 @@
 -- What is made of a large netlist before its run.
 use Rattle.std.specs.Prelude.{◌≡◌, ℕ, []}
-use Rattle.large_gen.specs.declared.summary.Summary.{Summary}
-use Rattle.large_gen.specs.Large.{gate_state, large_netlist, large_stimulus}
+use Rattle.large_run.specs.declared.summary.Summary.{Summary}
+use Rattle.large_run.specs.Large.{gate_state, large_netlist, large_stimulus}
 use Rattle.net_defs.specs.declared.stimulus.Stimulus.{Stimulus}
 use Rattle.net_defs.specs.Time.{cycle_count}
 use Rattle.net_defs.specs.Valid.{IsValidStimulus}

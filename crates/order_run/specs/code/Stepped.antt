@@ -2,7 +2,7 @@
 use Rattle.std.specs.Prelude.{◌≡◌, ◌⊎◌, ℕ, List, None, Option, Some}
 use Rattle.event_defs.specs.declared.place.CoreStep.{CoreStep}
 use Rattle.event_defs.specs.Steps.{AreSteps}
-use Rattle.event_core.specs.Core.{AreDone, CoreView, IsSameCore, rows_of, state_of, turns_of}
+use Rattle.order_run.specs.Core.{AreDone, CoreView, IsSameCore, rows_of, state_of, turns_of}
 
 -- a core has made the steps of these ports, one by one
 pub record HasStepped (old new : CoreView) (order : List ℕ) : Type 0 where

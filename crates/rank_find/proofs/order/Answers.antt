@@ -1,4 +1,4 @@
-use Rattle.rank_find.proofs.Exclusion.{acyclic}
+use Rattle.rank_find.proofs.lemmas.Exclusion.{acyclic}
 use Rattle.rank_find.proofs.order.Goals as goal
 
 pub returns-in-Ok-Order-clause-acyclic : goal.returns-in-Ok-Order-clause-acyclic

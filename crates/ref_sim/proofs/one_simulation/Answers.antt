@@ -5,8 +5,8 @@ use Rattle.net_defs.specs.declared.stimulus.Stimulus.{Stimulus}
 use Rattle.net_defs.specs.Loops.{IsCircle}
 use Rattle.net_defs.specs.Reference.{HasOneSimulation}
 use Rattle.rank_find.proofs.Existence.{order_or_loop}
-use Rattle.rank_find.proofs.Exclusion.{circle_not_in_unit_delay}
-use Rattle.ref_sim.proofs.Simulations.{one_along}
+use Rattle.rank_find.proofs.lemmas.Exclusion.{circle_not_in_unit_delay}
+use Rattle.ref_sim.proofs.lemmas.Simulations.{one_along}
 use Rattle.ref_sim.proofs.one_simulation.Goals as goal
 
 without_loop : (net : Netlist) (timing : Timing) (stimulus : Stimulus) → ((members : List ℕ) → IsCircle net timing members → ⊥) → HasOneSimulation net timing stimulus

@@ -3,7 +3,7 @@ use Rattle.std.proofs.Common.{ap, arith, mul-le-mul, ne_eqb, refl, ℕ, ◌%◌,
 use Rattle.std.proofs.lemmas.Bool.{eq-eqb}
 use Rattle.limits.specs.declared.TheConstants.{LANES}
 use Rattle.lane_planes.specs.declared.planes.Planes.{Planes}
-use Rattle.stim_text.proofs.LaneLemmas.{longest_few}
+use Rattle.stim_text.proofs.lemmas.LaneLemmas.{longest_few}
 use Rattle.stim_text.specs.Lanes.{longest}
 use Rattle.slot_words.specs.Feeds.{AreFew, TellsTurns}
 use Rattle.slot_words.specs.packed.Words.{Fits, HasPlanes, is_of, packed, stamp_in, stamp_of, turns_of}

@@ -4,7 +4,7 @@ use Rattle.std.proofs.lemmas.Bool.{eq-eqb}
 use Rattle.limits.specs.declared.TheConstants.{MAX_BANKS}
 use Rattle.net_defs.specs.Time.{cycle_count}
 use Rattle.image_defs.specs.Frames.{image_value}
-use Rattle.event_defs.proofs.WordLemmas.{stamp_in}
+use Rattle.event_defs.proofs.lemmas.WordLemmas.{stamp_in}
 use Rattle.event_defs.specs.Steps.{stamp_of}
 use Rattle.slot_words.specs.Feeds.{AreFew, TellsTurns}
 use Rattle.slot_words.specs.plain.Words.{Fits, IsSent, is_of, turns_of}

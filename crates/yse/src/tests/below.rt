@@ -9,7 +9,7 @@ mod of_edge_io;
 mod of_fault_sim;
 mod of_func_table;
 mod of_lane_planes;
-mod of_large_gen;
+mod of_large_run;
 mod of_limits;
 mod of_logic_four;
 mod of_machine_text;

@@ -11,7 +11,7 @@ use Rattle.plan_defs.specs.Homes.{AreHomes}
 use Rattle.plan_defs.specs.Picks.{ArePicked, AreHoused as HaveBlockPorts}
 use Rattle.plan_defs.specs.Slots.{IsFirstFitPlan}
 use Rattle.plan_defs.specs.Tables.{Fits}
-use Rattle.home_better.specs.Better.{IsBetter}
+use Rattle.home_pick.specs.Better.{IsBetter}
 use Rattle.image_defs.specs.declared.image.Image.{Image}
 use Rattle.yse_compile.specs.declared.choose.Chosen.{Chosen}
 use Rattle.yse_compile.specs.declared.choose.Fitted.{Fitted}

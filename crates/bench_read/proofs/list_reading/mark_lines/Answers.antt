@@ -4,8 +4,8 @@ use Rattle.std.proofs.lemmas.List.{length_push}
 use Rattle.std.specs.Prelude.{IfSome}
 use Rattle.net_defs.specs.Valid.{IsSignal}
 use Rattle.text_lines.specs.Lines.{parts_of}
-use Rattle.text_lines.proofs.AnswerLemmas.{fault_or_ok, fault_or_err}
-use Rattle.text_lines.proofs.LineLemmas.{next_line, no_next_line}
+use Rattle.text_lines.proofs.FaultLemmas.{fault_or_err, fault_or_ok}
+use Rattle.text_lines.proofs.lemmas.LineLemmas.{next_line, no_next_line}
 use Rattle.bench_read.specs.GateLists.{gates_of, gate_of, fault_of}
 use Rattle.bench_read.specs.code.GateLists.{AreMarks}
 use Rattle.bench_read.proofs.OnceLemmas.{marked_none, marked_blank, marked_more, marked_fault, marked_all}

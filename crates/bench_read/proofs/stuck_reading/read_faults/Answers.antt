@@ -1,6 +1,6 @@
 use Rattle.std.proofs.Common.{sym, ◌∙◌, ⊎_elim}
 use Rattle.std.proofs.lemmas.Result.{err_from_is_err_and}
-use Rattle.text_lines.proofs.AnswerLemmas.{none_is_not_some}
+use Rattle.text_lines.proofs.lemmas.AnswerLemmas.{none_is_not_some}
 use Rattle.bench_read.proofs.StuckLemmas.{reads_from_none, none_from_reads, faults_from_reads}
 use Rattle.bench_read.proofs.stuck_reading.read_faults.Goals as goal
 

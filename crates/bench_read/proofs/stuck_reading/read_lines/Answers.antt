@@ -5,8 +5,8 @@ use Rattle.std.specs.Prelude.{IfSome, Some, None}
 use Rattle.net_defs.specs.declared.faults.Fault.{Fault}
 use Rattle.net_defs.specs.Valid.{IsFault}
 use Rattle.text_lines.specs.Lines.{parts_of}
-use Rattle.text_lines.proofs.AnswerLemmas.{fault_or_ok, fault_or_err}
-use Rattle.text_lines.proofs.LineLemmas.{next_line, no_next_line}
+use Rattle.text_lines.proofs.FaultLemmas.{fault_or_err, fault_or_ok}
+use Rattle.text_lines.proofs.lemmas.LineLemmas.{next_line, no_next_line}
 use Rattle.bench_read.specs.StuckLists.{fault_of, number_of, stuck_in, stuck_of}
 use Rattle.bench_read.specs.code.StuckLists.{AreStuckMarks}
 use Rattle.bench_read.proofs.OnceLemmas.{marked_none, marked_blank, marked_more, marked_fault, marked_all, no_marks_of, passed_more}

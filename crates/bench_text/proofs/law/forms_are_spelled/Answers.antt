@@ -3,7 +3,7 @@ use Rattle.std.proofs.Common.{◌≡◌, ◌≢◌, ◌∙◌, Option, None, Som
 use Rattle.bench_text.specs.Forms.{Form}
 use Rattle.bench_text.specs.Spelling.{spelled}
 use Rattle.bench_text.specs.Decoding.{form_of}
-use Rattle.bench_text.proofs.SpellingLemmas.{form_again, form_spelled}
+use Rattle.bench_text.proofs.lemmas.SpellingLemmas.{form_again, form_spelled}
 use Rattle.bench_text.proofs.law.forms_are_spelled.Goals as goal
 
 pub returns-clause-form : goal.returns-clause-form

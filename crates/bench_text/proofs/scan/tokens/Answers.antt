@@ -1,7 +1,7 @@
 use Rattle.std.proofs.Common.{◌≡◌, refl, ap, inr, ◌∙◌, length, arith, add-one}
 use Rattle.bench_text.specs.Tokens.{tokens_before}
 use Rattle.bench_text.proofs.PlaceLemmas.{place_is, scanned_none, scanned_fault, scanned_all}
-use Rattle.bench_text.proofs.SpanLemmas.{list_read}
+use Rattle.bench_text.proofs.lemmas.SpanLemmas.{list_read}
 use Rattle.bench_text.proofs.scan.tokens.Goals as goal
 
 pub loop-i-init : goal.loop-i-init

@@ -1,6 +1,6 @@
 use Rattle.std.proofs.Common.{length, map}
 use Rattle.bench_text.specs.Rows.{pieces_of}
-use Rattle.bench_text.proofs.SpellingLemmas.{HasTaken}
+use Rattle.bench_text.proofs.lemmas.SpellingLemmas.{HasTaken}
 use Rattle.bench_text.proofs.taking.take_names.Given as goal
 
 abbrev pub invariant-commas : goal.invariant-commas

@@ -1,6 +1,6 @@
 use Rattle.std.proofs.Common.{[]}
 use Rattle.net_defs.specs.declared.stimulus.Stimulus.{Stimulus}
-use Rattle.event_defs.proofs.RunLemmas as run
+use Rattle.event_defs.proofs.lemmas.RunLemmas as run
 use Rattle.event_defs.proofs.law.events_are_left.Goals as goal
 
 -- the number of events asks for no stimulus

@@ -1,5 +1,5 @@
 use Rattle.std.proofs.Common.{refl, arith}
-use Rattle.event_defs.proofs.RunLemmas as run
+use Rattle.event_defs.proofs.lemmas.RunLemmas as run
 use Rattle.event_defs.proofs.law.events_of_a_run.Goals as goal
 
 pub returns-clause-most : goal.returns-clause-most

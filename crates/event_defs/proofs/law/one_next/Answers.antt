@@ -1,4 +1,4 @@
-use Rattle.event_defs.proofs.NextLemmas as next
+use Rattle.event_defs.proofs.lemmas.NextLemmas as next
 use Rattle.event_defs.proofs.law.one_next.Goals as goal
 
 pub returns : goal.returns

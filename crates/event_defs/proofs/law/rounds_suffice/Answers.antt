@@ -1,4 +1,4 @@
-use Rattle.event_defs.proofs.RunLemmas as run
+use Rattle.event_defs.proofs.lemmas.RunLemmas as run
 use Rattle.event_defs.proofs.law.rounds_suffice.Goals as goal
 
 pub returns : goal.returns

@@ -1,6 +1,6 @@
 use Rattle.std.proofs.Common.{length}
 use Rattle.event_defs.specs.Steps.{first_state}
-use Rattle.event_defs.proofs.KeptLemmas as kept
+use Rattle.event_defs.proofs.lemmas.KeptLemmas as kept
 use Rattle.event_defs.proofs.law.steps_are_sound.Goals as goal
 
 pub returns : goal.returns

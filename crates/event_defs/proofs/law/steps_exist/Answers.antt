@@ -1,6 +1,6 @@
 use Rattle.std.proofs.Common.{length}
 use Rattle.event_defs.specs.Steps.{first_state}
-use Rattle.event_defs.proofs.KeptLemmas.{starts_sound}
+use Rattle.event_defs.proofs.lemmas.KeptLemmas.{starts_sound}
 use Rattle.event_defs.proofs.ExistLemmas as exist
 use Rattle.event_defs.proofs.law.steps_exist.Goals as goal
 

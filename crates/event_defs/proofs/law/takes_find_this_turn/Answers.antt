@@ -1,4 +1,4 @@
-use Rattle.event_defs.proofs.KeptLemmas as kept
+use Rattle.event_defs.proofs.lemmas.KeptLemmas as kept
 use Rattle.event_defs.proofs.law.takes_find_this_turn.Goals as goal
 
 pub returns : goal.returns

@@ -1,5 +1,5 @@
 use Rattle.std.proofs.Common.{arith}
-use Rattle.plan_defs.proofs.WellFormedLemmas.{few_nodes}
+use Rattle.plan_defs.proofs.lemmas.WellFormedLemmas.{few_nodes}
 use Rattle.home_pick.proofs.HomeLemmas.{common_nodes}
 use Rattle.home_pick.proofs.law.default_nodes.Goals as goal
 

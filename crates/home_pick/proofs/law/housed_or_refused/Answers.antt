@@ -1,4 +1,4 @@
-use Rattle.home_pick.proofs.HousingLemmas as housing
+use Rattle.home_pick.proofs.lemmas.HousingLemmas as housing
 use Rattle.home_pick.proofs.law.housed_or_refused.Goals as goal
 
 pub returns : goal.returns

@@ -1,6 +1,6 @@
 use Rattle.std.proofs.Common.{◌≡◌, ◌∙◌, ◌<◌, Some, slice_get, ap, subst, length, arith, sym}
 use Rattle.std.proofs.lemmas.Option.{slice_get-get_or}
-use Rattle.plan_defs.proofs.PortLemmas.{home_port}
+use Rattle.plan_defs.proofs.lemmas.PortLemmas.{home_port}
 use Rattle.switch_set.specs.Order.{IsSlotOrder}
 use Rattle.switch_set.proofs.SwitchLemmas.{item_low}
 use Rattle.image_build.proofs.ItemLemmas.{items_none, items_more, items_all}

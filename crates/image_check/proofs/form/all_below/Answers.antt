@@ -1,5 +1,5 @@
 use Rattle.std.proofs.Common.{◌<◌, arith}
-use Rattle.image_check.proofs.EachLemmas.{each_read, each_done}
+use Rattle.image_check.proofs.lemmas.EachLemmas.{each_read, each_done}
 use Rattle.image_check.proofs.form.all_below.Goals as goal
 
 pub numbers-preserved : goal.numbers-preserved

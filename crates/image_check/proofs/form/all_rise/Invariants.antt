@@ -1,5 +1,5 @@
 use Rattle.image_check.specs.code.Shapes.{IsRising}
-use Rattle.image_check.proofs.EachLemmas.{EachBelow}
+use Rattle.image_check.proofs.lemmas.EachLemmas.{EachBelow}
 use Rattle.image_check.proofs.form.all_rise.Given as goal
 
 abbrev pub invariant-ports : goal.invariant-ports

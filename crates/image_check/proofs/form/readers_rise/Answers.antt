@@ -1,6 +1,6 @@
 use Rattle.std.proofs.Common.{rules, subst}
 use Rattle.std.specs.List.Sorted.{IsStrictlyIncreasing}
-use Rattle.image_check.proofs.EachLemmas.{each_read, each_read_not, each_done}
+use Rattle.image_check.proofs.lemmas.EachLemmas.{each_read, each_read_not, each_done}
 use Rattle.image_check.proofs.form.readers_rise.Goals as goal
 
 pub sends-preserved : goal.sends-preserved

@@ -1,5 +1,5 @@
 use Rattle.std.specs.List.Sorted.{IsStrictlyIncreasing}
-use Rattle.image_check.proofs.EachLemmas.{EachBelow}
+use Rattle.image_check.proofs.lemmas.EachLemmas.{EachBelow}
 use Rattle.image_check.proofs.form.readers_rise.Given as goal
 
 abbrev pub invariant-sends : goal.invariant-sends

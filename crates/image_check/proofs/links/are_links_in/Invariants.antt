@@ -1,5 +1,5 @@
 use Rattle.image_defs.specs.WellFormed.{IsLinkIn}
-use Rattle.image_check.proofs.EachLemmas.{EachBelow}
+use Rattle.image_check.proofs.lemmas.EachLemmas.{EachBelow}
 use Rattle.image_check.proofs.links.are_links_in.Given as goal
 
 abbrev pub invariant-links : goal.invariant-links

@@ -1,6 +1,6 @@
 use Rattle.std.proofs.Common.{rules}
 use Rattle.image_defs.specs.WellFormed.{IsLinkOut}
-use Rattle.image_check.proofs.EachLemmas.{each_next, each_done, each_not}
+use Rattle.image_check.proofs.lemmas.EachLemmas.{each_next, each_done, each_not}
 use Rattle.image_check.proofs.links.are_links_out.Goals as goal
 
 pub links-preserved : goal.links-preserved

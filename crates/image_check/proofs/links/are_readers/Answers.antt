@@ -1,6 +1,6 @@
 use Rattle.std.proofs.Common.{rules}
 use Rattle.image_check.specs.code.Links.{IsReader}
-use Rattle.image_check.proofs.EachLemmas.{each_read, each_done, each_read_not}
+use Rattle.image_check.proofs.lemmas.EachLemmas.{each_read, each_done, each_read_not}
 use Rattle.image_check.proofs.links.are_readers.Goals as goal
 
 pub readers-preserved : goal.readers-preserved

@@ -1,5 +1,5 @@
 use Rattle.image_check.specs.code.Links.{IsReader}
-use Rattle.image_check.proofs.EachLemmas.{EachBelow}
+use Rattle.image_check.proofs.lemmas.EachLemmas.{EachBelow}
 use Rattle.image_check.proofs.links.are_readers.Given as goal
 
 abbrev pub invariant-readers : goal.invariant-readers

@@ -1,5 +1,5 @@
 use Rattle.image_defs.specs.WellFormed.{IsPortImage}
-use Rattle.image_check.proofs.EachLemmas.{EachAtBelow}
+use Rattle.image_check.proofs.lemmas.EachLemmas.{EachAtBelow}
 use Rattle.image_check.proofs.ports.are_ports.Given as goal
 
 abbrev pub invariant-ports : goal.invariant-ports

@@ -1,7 +1,7 @@
 use Rattle.std.proofs.Common.{◌∙◌, ◌<◌, ℕ, subst, sym, rules}
 use Rattle.image_defs.specs.Places.{Each}
 use Rattle.image_defs.specs.WellFormed.{IsPortImage, IsLinkOut}
-use Rattle.image_check.proofs.EachLemmas.{no_part}
+use Rattle.image_check.proofs.lemmas.EachLemmas.{no_part}
 use Rattle.image_check.proofs.PortLemmas.{port_by_links}
 use Rattle.image_check.proofs.ports.is_port.Goals as goal
 

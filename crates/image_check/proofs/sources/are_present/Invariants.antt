@@ -1,5 +1,5 @@
 use Rattle.image_defs.specs.WellFormed.{IsPresent}
-use Rattle.image_check.proofs.EachLemmas.{EachBelow}
+use Rattle.image_check.proofs.lemmas.EachLemmas.{EachBelow}
 use Rattle.image_check.proofs.sources.are_present.Given as goal
 
 abbrev pub invariant-sources : goal.invariant-sources

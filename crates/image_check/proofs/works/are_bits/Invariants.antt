@@ -1,5 +1,5 @@
 use Rattle.image_defs.specs.WellFormed.{IsBit}
-use Rattle.image_check.proofs.EachLemmas.{EachBelow}
+use Rattle.image_check.proofs.lemmas.EachLemmas.{EachBelow}
 use Rattle.image_check.proofs.works.are_bits.Given as goal
 
 abbrev pub invariant-outs : goal.invariant-outs

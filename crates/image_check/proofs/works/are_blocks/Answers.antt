@@ -1,6 +1,6 @@
 use Rattle.std.proofs.Common.{rules}
 use Rattle.image_defs.specs.WellFormed.{IsBlock}
-use Rattle.image_check.proofs.EachLemmas.{each_next, each_done, each_not}
+use Rattle.image_check.proofs.lemmas.EachLemmas.{each_next, each_done, each_not}
 use Rattle.image_check.proofs.works.are_blocks.Goals as goal
 
 pub memories-preserved : goal.memories-preserved

@@ -1,5 +1,5 @@
 use Rattle.image_defs.specs.WellFormed.{IsBlock}
-use Rattle.image_check.proofs.EachLemmas.{EachBelow}
+use Rattle.image_check.proofs.lemmas.EachLemmas.{EachBelow}
 use Rattle.image_check.proofs.works.are_blocks.Given as goal
 
 abbrev pub invariant-memories : goal.invariant-memories

@@ -1,5 +1,5 @@
 use Rattle.std.proofs.Common.{◌<◌}
-use Rattle.image_check.proofs.EachLemmas.{each_done}
+use Rattle.image_check.proofs.lemmas.EachLemmas.{each_done}
 use Rattle.image_check.proofs.works.are_inputs.Goals as goal
 
 pub returns : goal.returns

@@ -1,5 +1,5 @@
 use Rattle.std.proofs.Common.{◌<◌}
-use Rattle.image_check.proofs.EachLemmas.{EachBelow}
+use Rattle.image_check.proofs.lemmas.EachLemmas.{EachBelow}
 use Rattle.image_check.proofs.works.are_inputs.Given as goal
 
 abbrev pub invariant-inputs : goal.invariant-inputs

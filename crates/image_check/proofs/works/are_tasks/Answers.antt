@@ -1,6 +1,6 @@
 use Rattle.std.proofs.Common.{rules}
 use Rattle.image_defs.specs.WellFormed.{IsTask}
-use Rattle.image_check.proofs.EachLemmas.{each_read, each_done, each_read_not}
+use Rattle.image_check.proofs.lemmas.EachLemmas.{each_read, each_done, each_read_not}
 use Rattle.image_check.proofs.works.are_tasks.Goals as goal
 
 pub tasks-preserved : goal.tasks-preserved

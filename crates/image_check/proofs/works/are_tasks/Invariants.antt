@@ -1,5 +1,5 @@
 use Rattle.image_defs.specs.WellFormed.{IsTask}
-use Rattle.image_check.proofs.EachLemmas.{EachBelow}
+use Rattle.image_check.proofs.lemmas.EachLemmas.{EachBelow}
 use Rattle.image_check.proofs.works.are_tasks.Given as goal
 
 abbrev pub invariant-tasks : goal.invariant-tasks

@@ -1,5 +1,5 @@
 use Rattle.std.proofs.Common.{rules}
-use Rattle.image_check.proofs.EachLemmas.{second_left}
+use Rattle.image_check.proofs.lemmas.EachLemmas.{second_left}
 use Rattle.image_check.proofs.works.is_host.Goals as goal
 
 pub returns : goal.returns

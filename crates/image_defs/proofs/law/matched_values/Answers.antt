@@ -1,4 +1,4 @@
-use Rattle.image_defs.proofs.MatchLemmas as lemmas
+use Rattle.image_defs.proofs.lemmas.MatchLemmas as lemmas
 use Rattle.image_defs.proofs.law.matched_values.Goals as goal
 
 pub returns : goal.returns

@@ -1,4 +1,4 @@
-use Rattle.image_defs.proofs.ValueLemmas as values
+use Rattle.image_defs.proofs.lemmas.ValueLemmas as values
 use Rattle.image_defs.proofs.law.value_meets_equations.Goals as goal
 
 pub returns : goal.returns

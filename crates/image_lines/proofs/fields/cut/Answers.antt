@@ -1,4 +1,4 @@
-use Rattle.image_lines.proofs.SplitLemmas.{cut_some, cut_none}
+use Rattle.image_lines.proofs.lemmas.SplitLemmas.{cut_some, cut_none}
 use Rattle.image_lines.proofs.fields.cut.Goals as goal
 
 pub returns-in-Some : goal.returns-in-Some

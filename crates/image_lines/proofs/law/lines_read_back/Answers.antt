@@ -1,4 +1,4 @@
-use Rattle.image_lines.proofs.LawLemmas.{read_again, read_only}
+use Rattle.image_lines.proofs.lemmas.LawLemmas.{read_again, read_only}
 use Rattle.image_lines.proofs.law.lines_read_back.Goals as goal
 
 pub returns-clause-again : goal.returns-clause-again

@@ -1,4 +1,4 @@
-use Rattle.lane_planes.proofs.BitLemmas.{spread}
+use Rattle.lane_planes.proofs.lemmas.BitLemmas.{spread}
 use Rattle.lane_planes.proofs.lanes.in_all.Goals as goal
 
 pub returns-clause-each : goal.returns-clause-each

@@ -1,5 +1,5 @@
 use Rattle.std.proofs.Common.{◌∙◌, ◌%◌, ◌/◌, ap}
-use Rattle.lane_planes.proofs.LaneLemmas.{lane_put}
+use Rattle.lane_planes.proofs.lemmas.LaneLemmas.{lane_put}
 use Rattle.lane_planes.proofs.lanes.in_all_lanes.Goals as goal
 
 pub returns : goal.returns

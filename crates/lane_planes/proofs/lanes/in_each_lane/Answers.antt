@@ -1,7 +1,7 @@
 use Rattle.std.proofs.Common.{◌∙◌, ◌%◌, ◌/◌, ap, arith}
-use Rattle.logic_four.proofs.CodeLemmas.{code_of_small}
+use Rattle.logic_four.proofs.lemmas.CodeLemmas.{code_of_small}
 use Rattle.lane_planes.specs.Lanes.{lane_of}
-use Rattle.lane_planes.proofs.LaneLemmas.{one_more_lane}
+use Rattle.lane_planes.proofs.lemmas.LaneLemmas.{one_more_lane}
 use Rattle.lane_planes.proofs.lanes.in_each_lane.Goals as goal
 
 pub lanes-init : goal.lanes-init

@@ -1,7 +1,7 @@
 use Rattle.std.proofs.Common.{◌<◌, ◌^◌, ℕ}
 use Rattle.std.specs.Int.{bit_at}
 use Rattle.limits.specs.declared.TheConstants.{LANES}
-use Rattle.lane_planes.proofs.LaneLemmas.{bits}
+use Rattle.lane_planes.proofs.lemmas.LaneLemmas.{bits}
 use Rattle.lane_planes.proofs.lanes.in_each_lane.Given as goal
 
 abbrev pub invariant-lanes : goal.invariant-lanes

@@ -1,5 +1,5 @@
 use Rattle.std.proofs.Common.{◌∙◌}
-use Rattle.lane_planes.proofs.LaneLemmas.{lane_read}
+use Rattle.lane_planes.proofs.lemmas.LaneLemmas.{lane_read}
 use Rattle.lane_planes.proofs.lanes.lane.Goals as goal
 
 pub returns : goal.returns

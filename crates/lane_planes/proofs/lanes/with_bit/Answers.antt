@@ -1,5 +1,5 @@
 use Rattle.std.proofs.Common.{arith}
-use Rattle.lane_planes.proofs.BitLemmas.{put_here, put_other, put_small}
+use Rattle.lane_planes.proofs.lemmas.BitLemmas.{put_here, put_other, put_small}
 use Rattle.lane_planes.proofs.lanes.with_bit.Goals as goal
 
 pub returns-clause-small : goal.returns-clause-small

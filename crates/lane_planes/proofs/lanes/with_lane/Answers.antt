@@ -1,5 +1,5 @@
 use Rattle.std.proofs.Common.{◌∙◌, ◌%◌, ◌/◌, ap}
-use Rattle.lane_planes.proofs.LaneLemmas.{lane_put, lane_kept}
+use Rattle.lane_planes.proofs.lemmas.LaneLemmas.{lane_put, lane_kept}
 use Rattle.lane_planes.proofs.lanes.with_lane.Goals as goal
 
 pub returns-clause-here : goal.returns-clause-here

@@ -1,4 +1,4 @@
-use Rattle.lane_planes.proofs.LaneLemmas.{same_planes}
+use Rattle.lane_planes.proofs.lemmas.LaneLemmas.{same_planes}
 use Rattle.lane_planes.proofs.laws.lanes_decide.Goals as goal
 
 pub returns : goal.returns

@@ -2,7 +2,7 @@ use Rattle.std.proofs.Common.{◌-◌, ◌∙◌, refl}
 use Rattle.std.specs.Prelude.{min, max}
 use Rattle.logic_four.specs.Values.{inverse}
 use Rattle.lane_planes.proofs.WordLemmas.{low_word, high_word, either, apart, all_ones}
-use Rattle.lane_planes.proofs.LaneLemmas.{bits, lane_is, in_lane}
+use Rattle.lane_planes.proofs.lemmas.LaneLemmas.{bits, lane_is, in_lane}
 use Rattle.lane_planes.proofs.pairs.inverted.Goals as goal
 
 pub returns : goal.returns

@@ -2,7 +2,7 @@ use Rattle.std.proofs.Common.{◌-◌, ◌∙◌, refl}
 use Rattle.std.specs.Prelude.{min}
 use Rattle.logic_four.specs.Values.{settled}
 use Rattle.lane_planes.proofs.WordLemmas.{low_word, high_word, apart}
-use Rattle.lane_planes.proofs.LaneLemmas.{bits, lane_is, in_lane}
+use Rattle.lane_planes.proofs.lemmas.LaneLemmas.{bits, lane_is, in_lane}
 use Rattle.lane_planes.proofs.pairs.settle_planes.Goals as goal
 
 pub returns : goal.returns

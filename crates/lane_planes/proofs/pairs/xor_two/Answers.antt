@@ -3,7 +3,7 @@ use Rattle.std.specs.Prelude.{min, max, ◌∷◌, []}
 use Rattle.limits.specs.declared.TheConstants.{LANES}
 use Rattle.logic_four.specs.Gates.{xor_value}
 use Rattle.lane_planes.proofs.WordLemmas.{low_word, high_word, either, differ, apart}
-use Rattle.lane_planes.proofs.LaneLemmas.{bits, lane_is, in_lanes}
+use Rattle.lane_planes.proofs.lemmas.LaneLemmas.{bits, lane_is, in_lanes}
 use Rattle.lane_planes.proofs.pairs.xor_two.Goals as goal
 
 pub invariant_of-result : goal.invariant_of-result

@@ -1,5 +1,5 @@
 use Rattle.std.proofs.Common.{ap, subst, ◌∙◌}
-use Rattle.large_gen.specs.Large.{large_stimulus}
+use Rattle.large_run.specs.Large.{large_stimulus}
 use Rattle.net_defs.specs.declared.netlist.Netlist.{Netlist}
 use Rattle.yse_compile.specs.Compiled.{IsCompiled, ShowsReference}
 use Rattle.large_run.specs.Setting.{large_machine, large_timing}

@@ -1,6 +1,6 @@
 use Rattle.std.proofs.Common.{inl, inr, arith}
-use Rattle.large_gen.specs.Large.{large_netlist}
-use Rattle.large_gen.proofs.ValidLemmas.{no_circle_large, valid_large}
+use Rattle.large_run.specs.Large.{large_netlist}
+use Rattle.large_run.proofs.ValidLemmas.{no_circle_large, valid_large}
 use Rattle.yse_compile.specs.declared.compiler.CompNo.{CompNo}
 use Rattle.yse_compile.specs.declared.compiler.CompNo.TheVariants as no
 use Rattle.yse_compile.specs.Compiled.{IsOverfull, IsRight}

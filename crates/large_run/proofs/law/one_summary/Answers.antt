@@ -1,8 +1,8 @@
 use Rattle.std.proofs.Common.{◌≡◌, ◌∙◌, ◌-◌, length, refl, sym, ap, subst, arith}
 use Rattle.home_pick.proofs.HomeLemmas.{homes_are}
-use Rattle.large_gen.specs.Large.{gate_state, large_netlist, large_stimulus}
-use Rattle.large_gen.specs.Summaries.{summary_text}
-use Rattle.large_gen.proofs.ValidLemmas.{no_circle_large, valid_large}
+use Rattle.large_run.specs.Large.{gate_state, large_netlist, large_stimulus}
+use Rattle.large_run.specs.Summaries.{summary_text}
+use Rattle.large_run.proofs.ValidLemmas.{no_circle_large, valid_large}
 use Rattle.net_defs.specs.Reference.{HasOneSimulation}
 use Rattle.net_defs.specs.Steps.{State}
 use Rattle.std.specs.Prelude.{List}

@@ -1,8 +1,8 @@
 use Rattle.std.proofs.Common.{inl, subst, sym}
 use Rattle.std.specs.Prelude.{List, length, ◌<◌, ◌^◌}
 use Rattle.std.proofs.lemmas.Result.{IfOk-weaker, err_from_is_err_and}
-use Rattle.large_gen.specs.Large.{large_netlist}
-use Rattle.large_gen.proofs.ValidLemmas.{valid_large}
+use Rattle.large_run.specs.Large.{large_netlist}
+use Rattle.large_run.proofs.ValidLemmas.{valid_large}
 use Rattle.machine_run.specs.Shown.{AreShown}
 use Rattle.net_defs.specs.declared.trace.CellRow.{CellRow}
 use Rattle.net_defs.specs.Time.{cycle_count}

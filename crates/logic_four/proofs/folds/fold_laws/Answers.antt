@@ -1,4 +1,4 @@
-use Rattle.logic_four.proofs.FoldLemmas.{front, parts, groups}
+use Rattle.logic_four.proofs.lemmas.FoldLemmas.{front, parts, groups}
 use Rattle.logic_four.proofs.folds.fold_laws.Goals as goal
 
 pub returns-clause-front : goal.returns-clause-front

@@ -1,4 +1,4 @@
-use Rattle.logic_four.proofs.KindLemmas.{up_to_most}
+use Rattle.logic_four.proofs.lemmas.KindLemmas.{up_to_most}
 use Rattle.logic_four.proofs.kinds.allows.Goals as goal
 
 pub returns-then-operands-ge1 : goal.returns-then-operands-ge1

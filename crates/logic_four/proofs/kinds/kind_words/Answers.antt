@@ -1,4 +1,4 @@
-use Rattle.logic_four.proofs.KindLemmas.{any_case, canonical, buffers, says}
+use Rattle.logic_four.proofs.lemmas.KindLemmas.{any_case, canonical, buffers, says}
 use Rattle.logic_four.proofs.kinds.kind_words.Goals as goal
 
 pub returns-clause-any_case : goal.returns-clause-any_case

@@ -1,4 +1,4 @@
-use Rattle.logic_four.proofs.MemoryLemmas.{bit_zero_first, undefined_bits, address_within, old_word, unknown_address_answers, disabled, reads_what_was_written, undefined_enable, other_words, unknown_address_writes, first_shape, first_words, shape, outputs_fit}
+use Rattle.logic_four.proofs.lemmas.MemoryLemmas.{bit_zero_first, undefined_bits, address_within, old_word, unknown_address_answers, disabled, reads_what_was_written, undefined_enable, other_words, unknown_address_writes, first_shape, first_words, shape, outputs_fit}
 use Rattle.logic_four.proofs.memory.memory_laws.Goals as goal
 
 pub returns : goal.returns

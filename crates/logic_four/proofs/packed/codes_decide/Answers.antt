@@ -1,5 +1,5 @@
 use Rattle.std.proofs.Common.{arith}
-use Rattle.logic_four.proofs.PackedLemmas.{same_from_codes}
+use Rattle.logic_four.proofs.lemmas.PackedLemmas.{same_from_codes}
 use Rattle.logic_four.proofs.packed.codes_decide.Goals as goal
 
 pub returns : goal.returns

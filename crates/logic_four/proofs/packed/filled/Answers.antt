@@ -1,4 +1,4 @@
-use Rattle.logic_four.proofs.PackedLemmas.{codes_of_filled}
+use Rattle.logic_four.proofs.lemmas.PackedLemmas.{codes_of_filled}
 use Rattle.logic_four.proofs.packed.filled.Goals as goal
 
 pub returns : goal.returns

@@ -1,4 +1,4 @@
-use Rattle.logic_four.proofs.PackedLemmas.{value-set_same, value-set_other}
+use Rattle.logic_four.proofs.lemmas.PackedLemmas.{value-set_same, value-set_other}
 use Rattle.logic_four.proofs.packed.put.Goals as goal
 
 pub returns-clause-here : goal.returns-clause-here

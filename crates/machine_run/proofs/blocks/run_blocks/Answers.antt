@@ -1,8 +1,8 @@
 use Rattle.std.proofs.Common.{Err, Ok, Result, ap, arith, length, refl, subst, suc, sym, zero, ℕ, ◌+◌, ◌∙◌, ◌≡◌, ◌≤◌}
 use Rattle.std.specs.Result.{OnErr}
-use Rattle.edge_io.proofs.WritingLemmas.{writes_same}
-use Rattle.machine_run.proofs.RoomLemmas.{can_tell_at_first}
-use Rattle.machine_run.proofs.TurnLemmas.{in_place_none}
+use Rattle.edge_io.proofs.lemmas.WritingLemmas.{writes_same}
+use Rattle.machine_run.proofs.lemmas.RoomLemmas.{can_tell_at_first}
+use Rattle.machine_run.proofs.lemmas.TurnLemmas.{in_place_none}
 use Rattle.std.proofs.lemmas.Result.{err_from_is_err_and}
 use Rattle.machine_run.specs.Crews.{CrewView, at_first, turns_left}
 use Rattle.machine_run.specs.Visits.{AllCanTellTurns}

@@ -1,7 +1,7 @@
 use Rattle.std.proofs.Common.{ap, arith, ◌∙◌, ◌≡◌}
 use Rattle.std.specs.Io.KnownBytes.{append_known}
-use Rattle.edge_io.proofs.WritingLemmas.{writes_same, writes_stop, writes_then}
-use Rattle.machine_run.proofs.TurnLemmas.{in_place_none}
+use Rattle.edge_io.proofs.lemmas.WritingLemmas.{writes_same, writes_stop, writes_then}
+use Rattle.machine_run.proofs.lemmas.TurnLemmas.{in_place_none}
 use Rattle.machine_run.specs.Lines.{cells_shown, lines_between}
 use Rattle.machine_run.proofs.RunLemmas.{stops_first, visits_begin}
 use Rattle.machine_run.proofs.blocks.write_run.Goals as goal

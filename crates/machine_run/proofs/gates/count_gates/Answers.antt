@@ -1,6 +1,6 @@
 use Rattle.std.proofs.Common.{rules, Some, ap, refl, ◌+◌, ◌∙◌}
 use Rattle.std.proofs.lemmas.List.{length_push}
-use Rattle.crew_run.proofs.Places.{each_push}
+use Rattle.crew_run.proofs.lemmas.Places.{each_push}
 use Rattle.machine_run.proofs.GateLemmas.{new_can_tell}
 use Rattle.machine_run.specs.Gates.{IsNew}
 use Rattle.machine_run.proofs.gates.count_gates.Goals as goal

@@ -2,7 +2,7 @@ use Rattle.std.proofs.Common.{ap, arith, subst, sym, ◌+◌, ◌∙◌, ◌≡�
 use Rattle.edge_io.specs.Writing.{Takes}
 use Rattle.net_defs.specs.Trace.{cycle_line}
 use Rattle.machine_run.specs.Lines.{cells_shown, lines_between}
-use Rattle.machine_run.proofs.LinesLemmas.{lines_cut, lines_one, lines_written, row_shown}
+use Rattle.machine_run.proofs.lemmas.LinesLemmas.{lines_cut, lines_one, lines_written, row_shown}
 use Rattle.machine_run.proofs.lines.write_rows.Goals as goal
 
 pub returns-in-Err-clause-written : goal.returns-in-Err-clause-written

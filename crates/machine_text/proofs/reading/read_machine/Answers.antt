@@ -1,6 +1,6 @@
 use Rattle.std.proofs.Common.{◌≡◌, sym, ap, ◌∙◌, ⊎_elim, inl, inr, arith}
 use Rattle.std.proofs.lemmas.Result.{err_from_is_err_and}
-use Rattle.text_lines.proofs.AnswerLemmas.{none_is_not_some}
+use Rattle.text_lines.proofs.lemmas.AnswerLemmas.{none_is_not_some}
 use Rattle.machine_text.specs.declared.quantity.Quantity.TheVariants.{Logic, Array}
 use Rattle.machine_text.specs.Settings.{lines_say, settings_of}
 use Rattle.machine_text.specs.Machines.{number_in}

@@ -10,14 +10,14 @@ use Rattle.refusal_lines.specs.declared.refusal.Refusal.{Refusal}
 use Rattle.named_files.specs.declared.checks.Built.{Built}
 use Rattle.named_files.specs.Checks.{HasNoLoop, Refuses}
 use Rattle.named_files.specs.Files.{AfterImage, AfterMatch}
-use Rattle.named_files.specs.Images.{IsAccepted}
+use Rattle.named_files.specs.Images.{IsAccepted, IsImageFileOf}
 use Rattle.named_files.specs.Outcome.{Outcome}
 use Rattle.named_files.specs.Passing.{Continuation, Passes}
 use Rattle.named_files.specs.code.Passing.{AfterImageFile}
 use Rattle.named_files.specs.Readings.{Reading}
 use Rattle.named_files.specs.Refused.{refused_of}
 use Rattle.named_files.proofs.PassingLemmas.{both_pass, check_passes, check_stops, first_stops, value_passes}
-use Rattle.named_files.proofs.WeakerLemmas.{image_file_so}
+use Rattle.named_files.proofs.lemmas.WeakerLemmas.{Implies, checked_so}
 use Rattle.named_files.proofs.designs.built_in.Goals as goal
 
 abbrev with_image : Netlist → Image → Built
@@ -32,6 +32,10 @@ match_then net timing file Next = AfterMatch net timing file (λ image. Next (re
 
 abbrev image_then : List ℕ → Netlist → Timing → Continuation Built → List Reading → Outcome → Type 0
 image_then name net timing Next = AfterImage name net timing (λ image. Next (record { net = net; image = image }))
+
+-- what follows one image follows the other
+image_file_so : (file : List ℕ) (One Other : ImageFile → List Reading → Outcome → Type 0) → ((image : ImageFile) → Implies (One image) (Other image)) → Implies (AfterImageFile file One) (AfterImageFile file Other)
+image_file_so file = checked_so file IsImageFileOf
 
 -- the netlist accepts the image or doesn't
 match_passes : (names : Option (List ℕ → Bool)) (bytes : Option (List ℕ → List ℕ)) (net : Netlist) (timing : Timing) (file : ImageFile) (counts : FileCounts) (result : Result Built Refusal)

@@ -10,7 +10,7 @@ use Rattle.named_files.specs.Outcome.{Outcome}
 use Rattle.named_files.specs.Passing.{AfterTimed, Continuation, placed}
 use Rattle.named_files.specs.Readings.{Reading}
 use Rattle.named_files.proofs.PassingLemmas.{both_pass, check_passes, check_stops, first_stops, value_passes}
-use Rattle.named_files.proofs.WeakerLemmas.{timed_so}
+use Rattle.named_files.proofs.lemmas.WeakerLemmas.{timed_so}
 use Rattle.named_files.proofs.designs.place.Goals as goal
 
 -- what comes after the design, after the check of its size, and after that of its loops

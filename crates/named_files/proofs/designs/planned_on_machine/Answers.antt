@@ -2,7 +2,7 @@
 use Rattle.named_files.specs.Passing.{AfterPlacedOn}
 use Rattle.named_files.specs.Files.{AfterMachine}
 use Rattle.named_files.proofs.PassingLemmas.{both_pass, first_stops}
-use Rattle.named_files.proofs.WeakerLemmas.{machine_so}
+use Rattle.named_files.proofs.lemmas.WeakerLemmas.{machine_so}
 use Rattle.named_files.proofs.designs.planned_on_machine.Goals as goal
 
 pub returns-in-Ok-clause-step : goal.returns-in-Ok-clause-step

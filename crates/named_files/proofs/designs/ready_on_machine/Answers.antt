@@ -8,7 +8,7 @@ use Rattle.named_files.specs.Outcome.{Outcome}
 use Rattle.named_files.specs.Passing.{AfterPlaced, Continuation}
 use Rattle.named_files.specs.Readings.{Reading}
 use Rattle.named_files.proofs.PassingLemmas.{both_pass, first_stops, value_passes}
-use Rattle.named_files.proofs.WeakerLemmas.{placed_so, stimulus_so}
+use Rattle.named_files.proofs.lemmas.WeakerLemmas.{placed_so, stimulus_so}
 use Rattle.named_files.proofs.designs.ready_on_machine.Goals as goal
 
 -- what comes after both, and after the design

@@ -8,7 +8,7 @@ use Rattle.named_files.specs.Outcome.{Outcome}
 use Rattle.named_files.specs.Passing.{AfterBuilt, AfterTimed, Continuation}
 use Rattle.named_files.specs.Readings.{Reading}
 use Rattle.named_files.proofs.PassingLemmas.{both_pass, first_stops, value_passes}
-use Rattle.named_files.proofs.WeakerLemmas.{built_so, run_then, timed_so}
+use Rattle.named_files.proofs.lemmas.WeakerLemmas.{built_so, run_then, timed_so}
 use Rattle.named_files.proofs.designs.runnable_in.Goals as goal
 
 -- what comes after both, and after the netlist

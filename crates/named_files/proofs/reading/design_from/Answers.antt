@@ -9,7 +9,7 @@ use Rattle.named_files.specs.Passing.{AfterNetlistFile, Continuation}
 use Rattle.named_files.specs.Readings.{Reading}
 use Rattle.named_files.specs.Files.{AfterList, AfterNetlist}
 use Rattle.named_files.proofs.PassingLemmas.{both_pass, first_stops, value_passes}
-use Rattle.named_files.proofs.WeakerLemmas.{list_so, netlist_file_so}
+use Rattle.named_files.proofs.lemmas.WeakerLemmas.{list_so, netlist_file_so}
 use Rattle.named_files.proofs.reading.design_from.Goals as goal
 
 -- what comes after the design

@@ -8,7 +8,7 @@ use Rattle.named_files.specs.Passing.{Continuation}
 use Rattle.named_files.specs.Readings.{Reading}
 use Rattle.named_files.specs.Files.{AfterList}
 use Rattle.named_files.proofs.PassingLemmas.{both_pass, file_passes, file_stops, first_stops, value_passes}
-use Rattle.named_files.proofs.WeakerLemmas.{checked_so}
+use Rattle.named_files.proofs.lemmas.WeakerLemmas.{checked_so}
 use Rattle.named_files.proofs.reading.timing_in.Goals as goal
 
 -- what comes after the timing with these gates listed

@@ -3,7 +3,7 @@ use Rattle.logic_four.specs.declared.V4.{V4}
 use Rattle.logic_four.specs.declared.Kind.{Kind}
 use Rattle.logic_four.specs.declared.Kind.TheVariants as kind
 use Rattle.logic_four.specs.Gates.{gate_value}
-use Rattle.logic_four.proofs.TestLemmas.{same, for_each, two_same}
+use Rattle.logic_four.proofs.lemmas.TestLemmas.{same, for_each, two_same}
 use Rattle.net_ops.specs.Tables.{table_value}
 use Rattle.net_ops.proofs.tables.pair_table.Goals as goal
 

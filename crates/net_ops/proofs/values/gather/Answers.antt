@@ -3,7 +3,7 @@ use Rattle.logic_four.specs.declared.V4.TheVariants.{Undef}
 use Rattle.net_defs.specs.Time.{value_at}
 use Rattle.net_ops.specs.Lanes.{lane_row}
 use Rattle.net_ops.proofs.LaneLemmas.{lane_at}
-use Rattle.net_ops.proofs.Writes.{map_over}
+use Rattle.net_ops.proofs.lemmas.Writes.{map_over}
 use Rattle.net_ops.proofs.values.gather.Goals as goal
 
 pub loop-k-preserved : goal.loop-k-preserved

@@ -1,5 +1,5 @@
 use Rattle.std.proofs.Common.{sym, arith}
-use Rattle.node_defs.proofs.GroupLemmas.{at_next, found_helper, found_own}
+use Rattle.node_defs.proofs.lemmas.GroupLemmas.{at_next, found_helper, found_own}
 use Rattle.node_defs.proofs.groups.group_at.Goals as goal
 
 pub returns-then-left-groups : goal.returns-then-left-groups

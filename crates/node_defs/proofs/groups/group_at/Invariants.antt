@@ -1,5 +1,5 @@
 use Rattle.std.proofs.Common.{◌-◌}
-use Rattle.node_defs.proofs.GroupLemmas.{AtLevel}
+use Rattle.node_defs.proofs.lemmas.GroupLemmas.{AtLevel}
 use Rattle.node_defs.proofs.groups.group_at.Given as goal
 
 abbrev pub invariant-levels : goal.invariant-levels

@@ -1,5 +1,5 @@
 use Rattle.std.proofs.Common.{arith}
-use Rattle.node_defs.proofs.GroupLemmas.{counted_begun, counted_more, counted_all}
+use Rattle.node_defs.proofs.lemmas.GroupLemmas.{counted_begun, counted_more, counted_all}
 use Rattle.node_defs.proofs.groups.helper_count.Goals as goal
 
 pub levels-init : goal.levels-init

@@ -1,5 +1,5 @@
 use Rattle.std.proofs.Common.{◌-◌}
-use Rattle.node_defs.proofs.GroupLemmas.{Counted}
+use Rattle.node_defs.proofs.lemmas.GroupLemmas.{Counted}
 use Rattle.node_defs.proofs.groups.helper_count.Given as goal
 
 abbrev pub invariant-levels : goal.invariant-levels

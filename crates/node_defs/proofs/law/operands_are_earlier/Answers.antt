@@ -1,4 +1,4 @@
-use Rattle.node_defs.proofs.EarlierLemmas.{earlier}
+use Rattle.node_defs.proofs.lemmas.EarlierLemmas.{earlier}
 use Rattle.node_defs.proofs.law.operands_are_earlier.Goals as goal
 
 pub returns : goal.returns

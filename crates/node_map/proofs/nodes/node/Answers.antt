@@ -5,7 +5,7 @@ use Rattle.node_defs.specs.Groups.{groups, group_at}
 use Rattle.node_map.specs.code.Wires.{operands_of}
 use Rattle.node_map.specs.code.Nodes.{node_kind, AreFeeds}
 use Rattle.node_map.specs.code.Tables.{HasTable}
-use Rattle.node_map.proofs.ShapeLemmas.{IsShaped, shaped, some_groups, few_groups}
+use Rattle.node_map.proofs.lemmas.ShapeLemmas.{IsShaped, shaped, some_groups, few_groups}
 use Rattle.node_map.proofs.MadeNodeLemmas.{made_node, kind_allowed, some_allowed}
 use Rattle.node_map.proofs.nodes.node.Goals as goal
 

@@ -1,5 +1,5 @@
 use Rattle.std.proofs.Common.{◌≤◌, length, arith}
-use Rattle.node_map.proofs.ShapeLemmas.{few_groups}
+use Rattle.node_map.proofs.lemmas.ShapeLemmas.{few_groups}
 use Rattle.node_map.proofs.ranks.own_rank.Goals as goal
 
 pub overflow_add-count : goal.overflow_add-count

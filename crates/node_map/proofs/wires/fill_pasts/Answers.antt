@@ -2,7 +2,7 @@ use Rattle.std.proofs.Common.{◌≡◌, ◌∙◌, ◌+◌, ◌<◌, ◌≤◌,
 use Rattle.std.proofs.lemmas.List.{length-map}
 use Rattle.node_defs.specs.Groups.{groups}
 use Rattle.node_map.specs.code.Wires.{past_of, pasts_to}
-use Rattle.node_map.proofs.ShapeLemmas.{some_groups, few_groups, group_within}
+use Rattle.node_map.proofs.lemmas.ShapeLemmas.{some_groups, few_groups, group_within}
 use Rattle.node_map.proofs.PastLemmas.{pasts_length, most_low}
 use Rattle.node_map.proofs.RankLemmas.{operands_low}
 use Rattle.node_map.proofs.wires.fill_pasts.Goals as goal

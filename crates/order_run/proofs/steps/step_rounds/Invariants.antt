@@ -1,4 +1,4 @@
-use Rattle.event_core.specs.Core.{IsSameCore, IsSoundCore, left_of}
+use Rattle.order_run.specs.Core.{IsSameCore, IsSoundCore, left_of}
 use Rattle.order_run.proofs.steps.step_rounds.Given as goal
 
 abbrev pub invariant-rounds : goal.invariant-rounds

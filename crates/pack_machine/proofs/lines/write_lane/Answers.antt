@@ -2,7 +2,7 @@
 use Rattle.std.proofs.Common.{ap, sym, ◌∙◌}
 use Rattle.std.proofs.lemmas.Option.{slice_get_within}
 use Rattle.machine_run.specs.Lines.{bytes_of_run}
-use Rattle.edge_io.proofs.WritingLemmas.{writes_same, writes_stop, writes_then}
+use Rattle.edge_io.proofs.lemmas.WritingLemmas.{writes_same, writes_stop, writes_then}
 use Rattle.net_defs.specs.Time.{cycle_count}
 use Rattle.pack_machine.proofs.LineLemmas.{marked, own_is}
 use Rattle.pack_machine.proofs.lines.write_lane.Goals as goal

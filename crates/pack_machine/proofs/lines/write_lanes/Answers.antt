@@ -3,7 +3,7 @@ use Rattle.std.proofs.Common.{arith, length, refl, ◌+◌}
 use Rattle.std.specs.List.{enumerate_from}
 use Rattle.std.proofs.lemmas.List.FromFn.{length-enumerate_from}
 use Rattle.std.proofs.lemmas.Option.{slice_get_read}
-use Rattle.edge_io.proofs.WritingLemmas.{writes_all, writes_ended, writes_more, writes_none}
+use Rattle.edge_io.proofs.lemmas.WritingLemmas.{writes_all, writes_ended, writes_more, writes_none}
 use Rattle.pack_machine.specs.Lines.{bytes_of_lane}
 use Rattle.pack_machine.proofs.LineLemmas.{numbered}
 use Rattle.pack_machine.proofs.lines.write_lanes.Goals as goal

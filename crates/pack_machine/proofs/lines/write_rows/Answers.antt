@@ -1,11 +1,11 @@
 -- Each row's line is written after those before it.
 use Rattle.std.proofs.Common.{ap, arith, refl, subst, sym, ◌+◌, ◌∙◌, ◌≡◌}
-use Rattle.machine_run.proofs.LinesLemmas.{lines_begin, lines_cut, lines_one, lines_written}
+use Rattle.machine_run.proofs.lemmas.LinesLemmas.{lines_begin, lines_cut, lines_one, lines_written}
 use Rattle.machine_run.specs.Lines.{lines_between}
 use Rattle.edge_io.specs.Writing.{Takes}
 use Rattle.net_defs.specs.Trace.{cycle_line}
 use Rattle.pack_machine.proofs.LineLemmas.{cells_wide, room_written, row_fits}
-use Rattle.stim_text.proofs.LaneLemmas.{longest_few}
+use Rattle.stim_text.proofs.lemmas.LaneLemmas.{longest_few}
 use Rattle.stim_text.specs.Lanes.{own_stimulus}
 use Rattle.pack_machine.specs.code.Lines.{cells_in_lane}
 use Rattle.pack_machine.proofs.lines.write_rows.Goals as goal

@@ -1,8 +1,8 @@
 -- The header is written, and then the rows.
 use Rattle.std.proofs.Common.{ap, arith, ◌∙◌}
 use Rattle.machine_run.specs.Lines.{lines_between}
-use Rattle.edge_io.proofs.WritingLemmas.{writes_same, writes_stop, writes_then}
-use Rattle.stim_text.proofs.LaneLemmas.{own_cycles}
+use Rattle.edge_io.proofs.lemmas.WritingLemmas.{writes_same, writes_stop, writes_then}
+use Rattle.stim_text.proofs.lemmas.LaneLemmas.{own_cycles}
 use Rattle.pack_machine.proofs.LineLemmas.{headed}
 use Rattle.pack_machine.specs.code.Lines.{cells_in_lane}
 use Rattle.pack_machine.proofs.lines.write_trace.Goals as goal

@@ -8,7 +8,7 @@ use Rattle.crew_run.specs.Lending.{AllCanRunWith, AllHaveRunWith}
 use Rattle.edge_io.specs.Writing.{Takes}
 use Rattle.image_defs.specs.declared.image.Image.{Image}
 use Rattle.stim_text.specs.Lanes.{AreLanes}
-use Rattle.machine_run.proofs.TurnLemmas.{in_place_none}
+use Rattle.machine_run.proofs.lemmas.TurnLemmas.{in_place_none}
 use Rattle.port_host.specs.Rows.{printed_sources}
 use Rattle.pack_run.specs.contracts.seated.PackSeatedStepper.TheImpl as seated
 use Rattle.pack_machine.specs.Lines.{bytes_of_lanes}

@@ -1,4 +1,4 @@
-use Rattle.plan_defs.proofs.WellFormedLemmas as formed
+use Rattle.plan_defs.proofs.lemmas.WellFormedLemmas as formed
 use Rattle.plan_defs.proofs.law.few_nodes.Goals as goal
 
 pub returns : goal.returns

@@ -1,4 +1,4 @@
-use Rattle.plan_defs.proofs.WellFormedLemmas.{well_formed}
+use Rattle.plan_defs.proofs.lemmas.WellFormedLemmas.{well_formed}
 use Rattle.plan_defs.proofs.law.items_are_well_formed.Goals as goal
 
 pub returns : goal.returns

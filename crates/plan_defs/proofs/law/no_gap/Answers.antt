@@ -1,4 +1,4 @@
-use Rattle.plan_defs.proofs.PlanLemmas as plans
+use Rattle.plan_defs.proofs.lemmas.PlanLemmas as plans
 use Rattle.plan_defs.proofs.law.no_gap.Goals as goal
 
 pub returns : goal.returns

@@ -1,4 +1,4 @@
-use Rattle.plan_defs.proofs.PlanLemmas.{plans_agree}
+use Rattle.plan_defs.proofs.lemmas.PlanLemmas.{plans_agree}
 use Rattle.plan_defs.proofs.law.one_plan.Goals as goal
 
 pub returns : goal.returns

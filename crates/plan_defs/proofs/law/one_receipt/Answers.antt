@@ -1,5 +1,5 @@
 use Rattle.std.proofs.Common.{length}
-use Rattle.plan_defs.proofs.PlanLemmas.{one_received}
+use Rattle.plan_defs.proofs.lemmas.PlanLemmas.{one_received}
 use Rattle.plan_defs.proofs.law.one_receipt.Goals as goal
 
 pub returns : goal.returns

@@ -1,5 +1,5 @@
 use Rattle.std.proofs.Common.{length}
-use Rattle.plan_defs.proofs.PlanLemmas.{one_at_home}
+use Rattle.plan_defs.proofs.lemmas.PlanLemmas.{one_at_home}
 use Rattle.plan_defs.proofs.law.one_sending.Goals as goal
 
 pub returns : goal.returns

@@ -6,7 +6,7 @@ use Rattle.std.proofs.lemmas.Result.{err_from_is_err_and}
 use Rattle.std.proofs.lemmas.List.{length-replicate, length-set, length-take, take_all}
 use Rattle.std.proofs.lemmas.List.Sums.{count_by-le-length}
 use Rattle.plan_defs.specs.Homes.{ports_of}
-use Rattle.plan_defs.proofs.PortLemmas.{home_port}
+use Rattle.plan_defs.proofs.lemmas.PortLemmas.{home_port}
 use Rattle.plan_text.proofs.FigureLemmas.{raised}
 use Rattle.plan_text.proofs.figures.item_counts.Goals as goal
 

@@ -1,4 +1,4 @@
-use Rattle.plan_text.proofs.OneLemmas.{crossings_agree}
+use Rattle.plan_text.proofs.lemmas.OneLemmas.{crossings_agree}
 use Rattle.plan_text.proofs.law.one_crossing_count.Goals as goal
 
 pub returns : goal.returns

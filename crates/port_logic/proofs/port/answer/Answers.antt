@@ -5,7 +5,7 @@ use Rattle.func_table.specs.Entries.{entry_for}
 use Rattle.image_defs.specs.Ports.{lane_port}
 use Rattle.port_bank.specs.Flat.{place_count}
 use Rattle.port_bank.specs.Reads.{IsHeld, IsRead}
-use Rattle.port_bank.proofs.LaneLemmas.{in_lane}
+use Rattle.port_bank.proofs.lemmas.LaneLemmas.{in_lane}
 use Rattle.port_logic.specs.code.Ops.{FitsOp}
 use Rattle.port_logic.specs.code.Tasks.{IsAnswer}
 use Rattle.port_logic.proofs.OpLemmas.{keep_right, look_right}

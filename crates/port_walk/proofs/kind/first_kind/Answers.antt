@@ -2,7 +2,7 @@ use Rattle.std.proofs.Common.{◌∙◌, ap, subst, sym, ◌≡◌, length, Some
 use Rattle.image_defs.specs.Ports.{at_first}
 use Rattle.image_defs.specs.WellFormed.{IsHost, IsLogic, IsArray}
 use Rattle.image_defs.specs.declared.image.Work.TheVariants.{Logic, Array}
-use Rattle.port_walk.proofs.KindLemmas.{seat_there, host_last, host_number, rows_first, none_first}
+use Rattle.port_walk.proofs.lemmas.KindLemmas.{seat_there, host_last, host_number, rows_first, none_first}
 use Rattle.port_walk.proofs.kind.first_kind.Goals as goal
 
 pub returns-in_ok-new-in-Host : goal.returns-in_ok-new-in-Host

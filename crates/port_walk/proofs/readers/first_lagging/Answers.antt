@@ -2,7 +2,7 @@ use Rattle.std.proofs.Common.{get_or, inl, inr, ap, ◌∙◌, ◌≡◌, ◌≤
 use Rattle.std.proofs.lemmas.Bool.{cases_lt, false≢true}
 use Rattle.std.proofs.lemmas.Option.{slice_get-get_or, slice_get_within, get_or_from_slice_get}
 use Rattle.list_laws.proofs.Ranges.{last_or}
-use Rattle.image_defs.proofs.PlaceLemmas.{rises}
+use Rattle.image_defs.proofs.lemmas.PlaceLemmas.{rises}
 use Rattle.port_walk.proofs.CursorLemmas.{from_next}
 use Rattle.port_walk.proofs.readers.first_lagging.Goals as goal
 

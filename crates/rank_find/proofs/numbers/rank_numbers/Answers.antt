@@ -1,5 +1,5 @@
 use Rattle.std.proofs.Common.{◌≡◌, arith, subst, length}
-use Rattle.rank_find.proofs.NumberLemmas.{IsRankedTo, gate_within, ranked_more, ranked_all}
+use Rattle.rank_find.proofs.lemmas.NumberLemmas.{IsRankedTo, gate_within, ranked_more, ranked_all}
 use Rattle.rank_find.proofs.numbers.rank_numbers.Goals as goal
 
 pub rank_above-number-requires : goal.rank_above-number-requires

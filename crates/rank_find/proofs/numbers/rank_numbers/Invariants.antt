@@ -1,4 +1,4 @@
-use Rattle.rank_find.proofs.NumberLemmas.{IsRankedTo}
+use Rattle.rank_find.proofs.lemmas.NumberLemmas.{IsRankedTo}
 use Rattle.rank_find.proofs.numbers.rank_numbers.Given as goal
 
 abbrev pub invariant-loop-gate : goal.invariant-loop-gate

@@ -1,5 +1,5 @@
 -- What is written of the line is told of it.
-use Rattle.edge_io.proofs.WritingLemmas.{tells_written}
+use Rattle.edge_io.proofs.lemmas.WritingLemmas.{tells_written}
 use Rattle.refusal_lines.proofs.diagnostics.refuse.Goals as goal
 
 pub returns-clause-line : goal.returns-clause-line

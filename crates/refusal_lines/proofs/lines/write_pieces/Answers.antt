@@ -1,6 +1,6 @@
 -- Each piece is written after those before it.
 use Rattle.std.proofs.Common.{arith}
-use Rattle.edge_io.proofs.WritingLemmas.{writes_none, writes_more, writes_ended, writes_all, member_at}
+use Rattle.edge_io.proofs.lemmas.WritingLemmas.{writes_none, writes_more, writes_ended, writes_all, member_at}
 use Rattle.refusal_lines.proofs.lines.write_pieces.Goals as goal
 
 pub pieces-init : goal.pieces-init

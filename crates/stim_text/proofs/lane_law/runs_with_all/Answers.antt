@@ -1,4 +1,4 @@
-use Rattle.stim_text.proofs.LaneLemmas.{lane_valid, lane_columns, lane_cycles, lane_turns, lane_input}
+use Rattle.stim_text.proofs.lemmas.LaneLemmas.{lane_valid, lane_columns, lane_cycles, lane_turns, lane_input}
 use Rattle.stim_text.proofs.lane_law.runs_with_all.Goals as goal
 
 pub returns-clause-valid : goal.returns-clause-valid

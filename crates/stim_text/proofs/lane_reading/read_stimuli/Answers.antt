@@ -2,8 +2,8 @@ use Rattle.std.proofs.Common.{length, sym, ap, ◌∙◌, inl, inr, ⊎_elim, ar
 use Rattle.std.proofs.lemmas.Result.{err_from_is_err_and}
 use Rattle.std.proofs.lemmas.List.{length_push}
 use Rattle.text_lines.specs.Lines.{parts_of}
-use Rattle.text_lines.proofs.LineLemmas.{next_line, no_next_line}
-use Rattle.text_lines.proofs.PartLemmas.{part_length}
+use Rattle.text_lines.proofs.lemmas.LineLemmas.{next_line, no_next_line}
+use Rattle.text_lines.proofs.lemmas.PartLemmas.{part_length}
 use Rattle.stim_text.specs.code.LaneTexts.{times_in}
 use Rattle.stim_text.proofs.LaneLoopLemmas.{has_none, has_fault, has_begin, has_blank, has_lane, has_row, has_all}
 use Rattle.stim_text.proofs.lane_reading.read_stimuli.Goals as goal

@@ -2,8 +2,8 @@ use Rattle.std.proofs.Common.{length, sym, ◌∙◌, inr, arith}
 use Rattle.std.proofs.lemmas.Result.{err_from_is_err_and}
 use Rattle.std.proofs.lemmas.List.{length_push}
 use Rattle.text_lines.specs.Lines.{parts_of}
-use Rattle.text_lines.proofs.AnswerLemmas.{fault_or_ok, fault_or_err}
-use Rattle.text_lines.proofs.LineLemmas.{next_line, no_next_line}
+use Rattle.text_lines.proofs.FaultLemmas.{fault_or_err, fault_or_ok}
+use Rattle.text_lines.proofs.lemmas.LineLemmas.{next_line, no_next_line}
 use Rattle.stim_text.specs.declared.order.OrderLine.{OrderLine}
 use Rattle.limits.specs.declared.TheConstants.{MAX_STEPS}
 use Rattle.stim_text.specs.OrderLines.{line_of, fault_of}

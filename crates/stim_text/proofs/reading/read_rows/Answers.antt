@@ -4,8 +4,8 @@ use Rattle.std.proofs.lemmas.Result.{err_from_is_err_and}
 use Rattle.std.proofs.lemmas.List.{length_push}
 use Rattle.limits.specs.declared.TheConstants.{MAX_CYCLES}
 use Rattle.text_lines.specs.Lines.{parts_of}
-use Rattle.text_lines.proofs.LineLemmas.{next_line, no_next_line}
-use Rattle.text_lines.proofs.PartLemmas.{part_length}
+use Rattle.text_lines.proofs.lemmas.LineLemmas.{next_line, no_next_line}
+use Rattle.text_lines.proofs.lemmas.PartLemmas.{part_length}
 use Rattle.stim_text.specs.Rows.{row_of, fault_of}
 use Rattle.stim_text.proofs.ReadingLemmas.{read_none, read_more, read_blank, read_fault, read_all, room_for}
 use Rattle.stim_text.proofs.reading.read_rows.Goals as goal

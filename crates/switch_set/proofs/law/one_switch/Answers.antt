@@ -1,4 +1,4 @@
-use Rattle.switch_set.proofs.SameLemmas.{switches_agree}
+use Rattle.switch_set.proofs.lemmas.SameLemmas.{switches_agree}
 use Rattle.switch_set.proofs.law.one_switch.Goals as goal
 
 pub returns : goal.returns

@@ -1,6 +1,6 @@
 -- Each line is written after those before it.
 use Rattle.std.proofs.Common.{arith}
-use Rattle.edge_io.proofs.WritingLemmas.{writes_none, writes_more, writes_ended, writes_all}
+use Rattle.edge_io.proofs.lemmas.WritingLemmas.{writes_none, writes_more, writes_ended, writes_all}
 use Rattle.trace_text.proofs.texts.write_texts.Goals as goal
 
 pub lines-init : goal.lines-init

@@ -1,6 +1,6 @@
 -- The header is written, and then the rows.
 use Rattle.std.proofs.Common.{◌∙◌, ap}
-use Rattle.edge_io.proofs.WritingLemmas.{writes_then}
+use Rattle.edge_io.proofs.lemmas.WritingLemmas.{writes_then}
 use Rattle.trace_text.proofs.traces.write_trace.Goals as goal
 
 pub returns-in-Ok-clause-written : goal.returns-in-Ok-clause-written

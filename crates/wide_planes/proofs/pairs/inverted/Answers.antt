@@ -1,7 +1,7 @@
 use Rattle.std.proofs.Common.{◌-◌, refl}
 use Rattle.std.specs.Prelude.{max}
 use Rattle.logic_four.specs.Values.{inverse}
-use Rattle.lane_planes.proofs.LaneLemmas.{bits}
+use Rattle.lane_planes.proofs.lemmas.LaneLemmas.{bits}
 use Rattle.wide_planes.specs.Lanes.{lane_of}
 use Rattle.wide_planes.proofs.LaneLemmas.{in_lane}
 use Rattle.wide_planes.proofs.pairs.inverted.Goals as goal

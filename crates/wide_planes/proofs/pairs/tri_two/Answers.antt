@@ -1,7 +1,7 @@
 use Rattle.std.proofs.Common.{◌-◌, refl}
 use Rattle.std.specs.Prelude.{min, max}
 use Rattle.logic_four.specs.Gates.{tri_value}
-use Rattle.lane_planes.proofs.LaneLemmas.{bits}
+use Rattle.lane_planes.proofs.lemmas.LaneLemmas.{bits}
 use Rattle.wide_planes.specs.Lanes.{lane_of}
 use Rattle.wide_planes.proofs.LaneLemmas.{in_lanes}
 use Rattle.wide_planes.proofs.pairs.tri_two.Goals as goal

@@ -1,4 +1,4 @@
-use Rattle.lane_planes.proofs.BitLemmas.{put_here, put_other}
+use Rattle.lane_planes.proofs.lemmas.BitLemmas.{put_here, put_other}
 use Rattle.wide_planes.proofs.words.with_bit.Goals as goal
 
 pub returns-clause-here : goal.returns-clause-here

@@ -2,7 +2,7 @@
 use Rattle.named_files.specs.Checks.{HasNoLoop}
 use Rattle.yse_commands.specs.commands.Cover.{CoversIn, WritesCoverage}
 use Rattle.named_files.specs.Files.{AfterStimulus}
-use Rattle.yse_commands.proofs.ChainLemmas.{follows_on, follows_refusal}
+use Rattle.yse_commands.proofs.lemmas.ChainLemmas.{follows_on, follows_refusal}
 use Rattle.yse_commands.proofs.PassingLemmas.{design_on, design_stops}
 use Rattle.yse_commands.proofs.cover.cover.Goals as goal
 

@@ -2,12 +2,12 @@
 use Rattle.std.proofs.Common.{Some, None, length, refl, inl, inr}
 use Rattle.named_files.specs.declared.designs.Runnable.{Runnable}
 use Rattle.named_files.specs.Passing.{AfterRunnable, Continuation}
-use Rattle.named_files.proofs.WeakerLemmas.{runnable_so}
+use Rattle.named_files.proofs.lemmas.WeakerLemmas.{runnable_so}
 use Rattle.cmd_words.specs.declared.command.RunWords.{RunWords}
 use Rattle.yse_commands.specs.Told.{run_turns}
 use Rattle.yse_commands.specs.commands.Exec.{RunsImage}
 use Rattle.yse_commands.specs.commands.Run.{RunsTo}
-use Rattle.yse_commands.proofs.ChainLemmas.{comes_silent, follows_here}
+use Rattle.yse_commands.proofs.lemmas.ChainLemmas.{comes_silent, follows_here}
 use Rattle.yse_commands.proofs.PassingLemmas.{passed_on, stimulus_on, stimulus_stops, stopped}
 use Rattle.yse_commands.proofs.exec.exec.Goals as goal
 

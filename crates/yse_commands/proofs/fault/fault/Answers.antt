@@ -2,7 +2,7 @@
 use Rattle.named_files.specs.Checks.{After, HasFewSignals, HasNoLoop}
 use Rattle.yse_commands.specs.commands.Fault.{AfterListed, FaultsIn}
 use Rattle.named_files.specs.Files.{AfterFaultList}
-use Rattle.yse_commands.proofs.ChainLemmas.{follows_on, follows_refusal}
+use Rattle.yse_commands.proofs.lemmas.ChainLemmas.{follows_on, follows_refusal}
 use Rattle.yse_commands.proofs.PassingLemmas.{design_on, design_stops}
 use Rattle.yse_commands.proofs.fault.fault.Goals as goal
 

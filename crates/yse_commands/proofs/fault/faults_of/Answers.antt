@@ -2,8 +2,8 @@
 use Rattle.named_files.specs.Checks.{HasFewSignals}
 use Rattle.yse_commands.specs.commands.Fault.{AfterListed}
 use Rattle.named_files.specs.Files.{AfterFaultList}
-use Rattle.named_files.proofs.WeakerLemmas.{faults_so}
-use Rattle.yse_commands.proofs.ChainLemmas.{follows_on, follows_refusal}
+use Rattle.named_files.proofs.lemmas.WeakerLemmas.{faults_so}
+use Rattle.yse_commands.proofs.lemmas.ChainLemmas.{follows_on, follows_refusal}
 use Rattle.yse_commands.proofs.PassingLemmas.{passed_on, stopped}
 use Rattle.yse_commands.proofs.fault.faults_of.Goals as goal
 

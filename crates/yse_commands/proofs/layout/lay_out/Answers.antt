@@ -6,9 +6,9 @@ use Rattle.named_files.specs.Designs.{Placed}
 use Rattle.named_files.specs.Passing.{AfterPlaced, Continuation}
 use Rattle.yse_commands.specs.declared.layout.Sheet.{Sheet}
 use Rattle.yse_commands.specs.commands.Layout.{IsSheetOf}
-use Rattle.yse_commands.proofs.ChainLemmas.{follows_here}
+use Rattle.yse_commands.proofs.lemmas.ChainLemmas.{follows_here}
 use Rattle.yse_commands.proofs.PassingLemmas.{passed_on, stopped}
-use Rattle.named_files.proofs.WeakerLemmas.{placed_so}
+use Rattle.named_files.proofs.lemmas.WeakerLemmas.{placed_so}
 use Rattle.yse_commands.proofs.layout.lay_out.Goals as goal
 
 -- what comes after the design

@@ -1,9 +1,9 @@
 -- The order, and what is done by its end.
 use Rattle.std.proofs.Common.{refl, inl, inr}
 use Rattle.named_files.specs.Passing.{AfterOrderFile}
-use Rattle.named_files.proofs.WeakerLemmas.{order_so}
+use Rattle.named_files.proofs.lemmas.WeakerLemmas.{order_so}
 use Rattle.yse_commands.specs.commands.Run.{EndsAfter}
-use Rattle.yse_commands.proofs.ChainLemmas.{follows_here}
+use Rattle.yse_commands.proofs.lemmas.ChainLemmas.{follows_here}
 use Rattle.yse_commands.proofs.PassingLemmas.{passed_on, stopped}
 use Rattle.yse_commands.proofs.order.in_order.Goals as goal
 

@@ -2,9 +2,9 @@
 use Rattle.std.proofs.Common.{None, refl, inl, inr}
 use Rattle.named_files.specs.Checks.{HasFewCells}
 use Rattle.named_files.specs.Passing.{AfterReady}
-use Rattle.named_files.proofs.WeakerLemmas.{ready_so}
+use Rattle.named_files.proofs.lemmas.WeakerLemmas.{ready_so}
 use Rattle.yse_commands.specs.commands.Run.{EndsBy, OrdersOn}
-use Rattle.yse_commands.proofs.ChainLemmas.{follows_here, follows_on, follows_refusal}
+use Rattle.yse_commands.proofs.lemmas.ChainLemmas.{follows_here, follows_on, follows_refusal}
 use Rattle.yse_commands.proofs.PassingLemmas.{passed_on, stopped}
 use Rattle.yse_commands.proofs.order.order.Goals as goal
 

@@ -3,10 +3,10 @@ use Rattle.std.proofs.Common.{Some, None, refl, inl, inr}
 use Rattle.named_files.specs.Checks.{Ends, HasFewBits, HasFewLaneCells, WritesTold}
 use Rattle.named_files.specs.Files.{AfterLanes}
 use Rattle.named_files.specs.Passing.{AfterPlaced}
-use Rattle.named_files.proofs.WeakerLemmas.{lanes_so, placed_so}
+use Rattle.named_files.proofs.lemmas.WeakerLemmas.{lanes_so, placed_so}
 use Rattle.yse_commands.specs.Told.{lanes_turns}
 use Rattle.yse_commands.specs.commands.Pack.{AreLaneTraces, KeepsLanes, Packs}
-use Rattle.yse_commands.proofs.ChainLemmas.{comes_silent, follows_here, follows_on, follows_refusal}
+use Rattle.yse_commands.proofs.lemmas.ChainLemmas.{comes_silent, follows_here, follows_on, follows_refusal}
 use Rattle.yse_commands.proofs.PassingLemmas.{passed_on, stopped}
 use Rattle.yse_commands.proofs.pack.pack.Goals as goal
 

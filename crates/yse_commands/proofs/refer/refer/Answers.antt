@@ -2,7 +2,7 @@
 use Rattle.named_files.specs.Checks.{HasNoLoop}
 use Rattle.yse_commands.specs.commands.Run.{AfterLoop, KeepsTrace}
 use Rattle.named_files.specs.Files.{AfterStimulus}
-use Rattle.yse_commands.proofs.ChainLemmas.{follows_here, follows_on, follows_refusal}
+use Rattle.yse_commands.proofs.lemmas.ChainLemmas.{follows_here, follows_on, follows_refusal}
 use Rattle.yse_commands.proofs.PassingLemmas.{design_on, design_stops, stimulus_on, stimulus_stops}
 use Rattle.yse_commands.proofs.refer.refer.Goals as goal
 

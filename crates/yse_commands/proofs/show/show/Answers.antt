@@ -5,9 +5,9 @@ use Rattle.net_defs.specs.declared.netlist.Netlist.{Netlist}
 use Rattle.named_files.specs.Checks.{Ends, Writes}
 use Rattle.named_files.specs.Passing.{AfterNetlistFile, Continuation}
 use Rattle.yse_commands.specs.commands.Show.{ExpectedShow}
-use Rattle.yse_commands.proofs.ChainLemmas.{follows_here}
+use Rattle.yse_commands.proofs.lemmas.ChainLemmas.{follows_here}
 use Rattle.yse_commands.proofs.PassingLemmas.{passed_on, stopped}
-use Rattle.named_files.proofs.WeakerLemmas.{netlist_file_so}
+use Rattle.named_files.proofs.lemmas.WeakerLemmas.{netlist_file_so}
 use Rattle.yse_commands.proofs.show.show.Goals as goal
 
 -- what comes after the netlist

@@ -1,6 +1,6 @@
 use Rattle.std.proofs.Common.{ap, refl}
 use Rattle.std.proofs.lemmas.Result.{err_from_is_err_and}
-use Rattle.yse_compile.proofs.ChoiceLemmas.{used_fits}
+use Rattle.yse_compile.proofs.lemmas.ChoiceLemmas.{used_fits}
 use Rattle.yse_compile.proofs.compiler.compile_with.Goals as goal
 
 pub returns-in_err-nodes-clause-refused : goal.returns-in_err-nodes-clause-refused

@@ -1,4 +1,4 @@
-use Rattle.yse_compile.proofs.SameHomes.{refused_kept}
+use Rattle.yse_compile.proofs.lemmas.SameHomes.{refused_kept}
 use Rattle.yse_compile.proofs.law.bits_before_nodes.Goals as goal
 
 pub returns : goal.returns

@@ -1,5 +1,5 @@
 use Rattle.home_pick.proofs.HomeLemmas.{homes_are}
-use Rattle.yse_compile.proofs.ChoiceLemmas.{compiled_design}
+use Rattle.yse_compile.proofs.lemmas.ChoiceLemmas.{compiled_design}
 use Rattle.yse_compile.proofs.law.compiled_is_design.Goals as goal
 
 pub returns : goal.returns

@@ -1,5 +1,5 @@
 use Rattle.std.proofs.Common.{inl, inr}
-use Rattle.yse_compile.proofs.DesignExists.{has_design}
+use Rattle.yse_compile.proofs.lemmas.DesignExists.{has_design}
 use Rattle.yse_compile.proofs.law.designs_exist.Goals as goal
 
 pub returns : goal.returns

@@ -1,7 +1,7 @@
 use Rattle.std.proofs.Common.{◌≡◌, inl, inr, subst}
-use Rattle.home_better.specs.Better.{IsBetter}
+use Rattle.home_pick.specs.Better.{IsBetter}
 use Rattle.yse_compile.specs.Chosen.{HomesFit}
-use Rattle.yse_compile.proofs.ChoiceLemmas.{plain_either}
+use Rattle.yse_compile.proofs.lemmas.ChoiceLemmas.{plain_either}
 use Rattle.yse_compile.proofs.law.either_fits.Goals as goal
 
 pub returns-clause-plain : goal.returns-clause-plain

@@ -1,7 +1,7 @@
 use Rattle.std.proofs.Common.{inl, inr, subst}
 use Rattle.net_defs.specs.declared.homes.HomeChoice.TheVariants.{Plain, Better}
 use Rattle.yse_compile.specs.Compiled.{IsOverfull}
-use Rattle.yse_compile.proofs.ChoiceLemmas.{only_memory, either_or_refused}
+use Rattle.yse_compile.proofs.lemmas.ChoiceLemmas.{only_memory, either_or_refused}
 use Rattle.yse_compile.proofs.law.fits_by_or_refused.Goals as goal
 
 pub returns : goal.returns

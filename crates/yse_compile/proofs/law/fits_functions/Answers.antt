@@ -1,6 +1,6 @@
 use Rattle.std.proofs.Common.{◌≡◌, ◌≤◌, ◌<◌, subst, arith}
 use Rattle.plan_defs.specs.Tables.{UsesTables}
-use Rattle.yse_compile.proofs.SameTables.{tables_few}
+use Rattle.yse_compile.proofs.lemmas.SameTables.{tables_few}
 use Rattle.yse_compile.proofs.law.fits_functions.Goals as goal
 
 pub returns : goal.returns

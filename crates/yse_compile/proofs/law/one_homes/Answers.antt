@@ -1,4 +1,4 @@
-use Rattle.yse_compile.proofs.SameHomes.{homes_same}
+use Rattle.yse_compile.proofs.lemmas.SameHomes.{homes_same}
 use Rattle.yse_compile.proofs.law.one_homes.Goals as goal
 
 pub returns : goal.returns

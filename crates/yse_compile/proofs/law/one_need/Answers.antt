@@ -1,6 +1,6 @@
 use Rattle.std.proofs.Common.{◌≡◌, subst}
 use Rattle.plan_defs.specs.Slots.{IsFirstFitPlan}
-use Rattle.yse_compile.proofs.SamePlans.{plan_kept}
+use Rattle.yse_compile.proofs.lemmas.SamePlans.{plan_kept}
 use Rattle.yse_compile.proofs.law.one_need.Goals as goal
 
 pub returns : goal.returns

@@ -1,7 +1,7 @@
 use Rattle.std.proofs.Common.{◌≡◌, subst}
 use Rattle.net_defs.specs.declared.homes.HomeChoice.TheVariants.{Plain, Better}
 use Rattle.yse_compile.specs.Chosen.{UsesPlain, UsesBetter}
-use Rattle.yse_compile.proofs.ChoiceLemmas.{plain_alike, better_alike}
+use Rattle.yse_compile.proofs.lemmas.ChoiceLemmas.{plain_alike, better_alike}
 use Rattle.yse_compile.proofs.law.one_use.Goals as goal
 
 pub returns : goal.returns

@@ -1,4 +1,4 @@
-use Rattle.yse_compile.proofs.PlanExists as plans
+use Rattle.yse_compile.proofs.lemmas.PlanExists as plans
 use Rattle.yse_compile.proofs.law.plan_exists.Goals as goal
 
 pub returns : goal.returns

@@ -2,7 +2,7 @@
 use Rattle.std.proofs.Common.{inl, inr, ap}
 use Rattle.net_defs.specs.declared.homes.HomeChoice.TheVariants.{Plain, Better}
 use Rattle.yse_compile.specs.Compiled.{of_plan}
-use Rattle.yse_compile.proofs.ChoiceLemmas.{by_either, homes_only, homes_right, plan_only, plan_right}
+use Rattle.yse_compile.proofs.lemmas.ChoiceLemmas.{by_either, homes_only, homes_right, plan_only, plan_right}
 use Rattle.yse_compile.proofs.law.refusals_are_right.Goals as goal
 
 pub returns-clause-either : goal.returns-clause-either

@@ -1,4 +1,4 @@
-use Rattle.yse_compile.proofs.SwitchExists.{switch_there}
+use Rattle.yse_compile.proofs.lemmas.SwitchExists.{switch_there}
 use Rattle.yse_compile.proofs.law.switch_exists.Goals as goal
 
 pub returns : goal.returns

@@ -1,4 +1,4 @@
-use Rattle.yse_compile.proofs.PlanExists as plans
+use Rattle.yse_compile.proofs.lemmas.PlanExists as plans
 use Rattle.yse_compile.proofs.law.tables_counted.Goals as goal
 
 pub returns : goal.returns

@@ -1,6 +1,6 @@
 use Rattle.image_defs.specs.Places.{Each}
 use Rattle.image_file.specs.Ranges.{tables_of}
-use Rattle.image_check.proofs.EachLemmas.{EachBelow}
+use Rattle.image_check.proofs.lemmas.EachLemmas.{EachBelow}
 use Rattle.node_map.specs.Words.{HasWords}
 use Rattle.yse_compile.proofs.words.read_words.Given as goal
 

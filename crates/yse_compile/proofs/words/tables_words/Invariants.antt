@@ -1,4 +1,4 @@
-use Rattle.image_check.proofs.EachLemmas.{EachBelow}
+use Rattle.image_check.proofs.lemmas.EachLemmas.{EachBelow}
 use Rattle.node_map.specs.Words.{HasWords}
 use Rattle.yse_compile.proofs.words.tables_words.Given as goal
 

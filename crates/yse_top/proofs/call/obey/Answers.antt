@@ -3,7 +3,7 @@ use Rattle.std.proofs.Common.{◌∙◌, sym, ap, subst, Ok, Err}
 use Rattle.yse_commands.specs.Outputs.{wrote_in}
 use Rattle.yse_commands.specs.Refusals.{outcome_of}
 use Rattle.yse_commands.specs.Told.{TellsTurns, wrote_at}
-use Rattle.yse_commands.proofs.VisitedLemmas.{refused_wrote, tells_ended}
+use Rattle.yse_commands.proofs.lemmas.VisitedLemmas.{refused_wrote, tells_ended}
 use Rattle.yse_top.proofs.CallLemmas.{refused_ends}
 use Rattle.yse_top.proofs.call.obey.Goals as goal
 

@@ -1,7 +1,7 @@
 -- Each command comes to its chain; those that tell no gate read files alone, and a generated design and help need none.
 use Rattle.yse_commands.specs.commands.Help.{ExpectedHelp}
 use Rattle.yse_commands.specs.commands.Large.{ExpectedLarge}
-use Rattle.yse_commands.proofs.ChainLemmas.{comes_silent, follows_here}
+use Rattle.yse_commands.proofs.lemmas.ChainLemmas.{comes_silent, follows_here}
 use Rattle.yse_top.proofs.commands.prepare.Goals as goal
 
 pub returns-in-Run-clause-comes : goal.returns-in-Run-clause-comes

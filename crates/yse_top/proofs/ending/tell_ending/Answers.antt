@@ -1,4 +1,4 @@
-use Rattle.edge_io.proofs.WritingLemmas.{tells_written}
+use Rattle.edge_io.proofs.lemmas.WritingLemmas.{tells_written}
 use Rattle.yse_top.proofs.ending.tell_ending.Goals as goal
 
 pub returns-in-Some-clause-told : goal.returns-in-Some-clause-told

@@ -10,7 +10,7 @@ use Rattle.machine_text.specs.Machines.{IsValid as IsValidMachine, default_machi
 use Rattle.net_defs.specs.Valid.{Ascends, IsFault, IsValid, IsValidTiming, input_count}
 use Rattle.yse_compile.specs.Chosen.{FitsBy}
 use Rattle.yse_compile.specs.Designs.{IsAcyclic}
-use Rattle.yse_compile.proofs.DesignExists.{HasDesign}
+use Rattle.yse_compile.proofs.lemmas.DesignExists.{HasDesign}
 use Rattle.text_lines.specs.Answers.{IsReader}
 use Rattle.net_defs.specs.declared.faults.Fault.{Fault}
 use Rattle.net_defs.specs.declared.homes.HomeChoice.{HomeChoice}

@@ -2,7 +2,7 @@ use Rattle.std.proofs.Common.{◌≡◌, ◌*◌, ◌<◌, ℕ, length, map, ap,
 use Rattle.logic_four.specs.declared.V4.TheVariants.{Undef}
 use Rattle.logic_four.specs.Memory.{undefined_word}
 use Rattle.logic_four.specs.Packed.{packed_value}
-use Rattle.logic_four.proofs.PackedLemmas.{codes_of_filled, value-replicate}
+use Rattle.logic_four.proofs.lemmas.PackedLemmas.{codes_of_filled, value-replicate}
 use Rattle.array_cells.specs.declared.sheet.TheConstants.{BLANK}
 use Rattle.array_cells.proofs.WordLemmas.{words_of-forgotten}
 use Rattle.array_cells.proofs.cells.Cells.forget.Goals as goal

@@ -1,7 +1,7 @@
 use Rattle.std.proofs.Common.{◌≡◌, ◌*◌, ◌%◌, ◌^◌, arith}
 use Rattle.std.proofs.lemmas.Nat.{one_shl}
 use Rattle.logic_four.specs.Memory.{initial_words}
-use Rattle.logic_four.proofs.MemoryLemmas.{first_shape}
+use Rattle.logic_four.proofs.lemmas.MemoryLemmas.{first_shape}
 use Rattle.array_cells.proofs.WordLemmas.{words_of-filled}
 use Rattle.array_cells.proofs.cells.Cells.new.Goals as goal
 

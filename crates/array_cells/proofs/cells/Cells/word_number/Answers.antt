@@ -1,5 +1,5 @@
 use Rattle.std.proofs.Common.{◌≡◌, length, sym, ap, ◌∙◌, arith}
-use Rattle.logic_four.proofs.MemoryLemmas.{bits_number-within}
+use Rattle.logic_four.proofs.lemmas.MemoryLemmas.{bits_number-within}
 use Rattle.array_cells.proofs.AddressLemmas.{few_bits, address_of-known, address_of-unknown}
 use Rattle.array_cells.proofs.WordLemmas.{length-words_of}
 use Rattle.array_cells.proofs.cells.Cells.word_number.Goals as goal

@@ -1,7 +1,7 @@
 use Rattle.std.proofs.Common.{◌≡◌, length, replicate, rules, ap, ◌∙◌, arith}
 use Rattle.std.proofs.lemmas.List.{length-replicate}
 use Rattle.logic_four.specs.Packed.{packed_value}
-use Rattle.logic_four.proofs.PackedLemmas.{value-replicate}
+use Rattle.logic_four.proofs.lemmas.PackedLemmas.{value-replicate}
 use Rattle.array_cells.specs.code.Sheets.{words_after}
 use Rattle.array_cells.proofs.SheetLemmas.{length-words_after, words_after-seen}
 use Rattle.array_cells.proofs.sheet.Sheet.new.Goals as goal

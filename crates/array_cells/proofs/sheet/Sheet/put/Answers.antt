@@ -1,6 +1,6 @@
 use Rattle.std.proofs.Common.{◌≡◌, ◌≢◌, ◌/◌, ◌%◌, ◌<◌, ℕ, slice_index}
 use Rattle.logic_four.specs.Packed.{code_in}
-use Rattle.logic_four.proofs.PackedLemmas.{value-set_same, value-set_other}
+use Rattle.logic_four.proofs.lemmas.PackedLemmas.{value-set_same, value-set_other}
 use Rattle.array_cells.proofs.sheet.Sheet.put.Goals as goal
 
 pub returns-clause-here : goal.returns-clause-here

@@ -3,7 +3,7 @@ use Rattle.image_defs.specs.Places.{IsPort}
 use Rattle.image_defs.specs.Ports.{at_first}
 use Rattle.image_defs.specs.WellFormed.{IsWellFormed}
 use Rattle.port_bank.specs.Packed.{PackPortView}
-use Rattle.port_walk.proofs.KindLemmas.{seat_there}
+use Rattle.port_walk.proofs.lemmas.KindLemmas.{seat_there}
 use Rattle.pack_walk.proofs.PlacedLemmas.{all_valid, all_turns}
 use Rattle.pack_walk.proofs.placed.PackPlaced.new.Goals as goal
 

@@ -1,6 +1,6 @@
 use Rattle.std.proofs.Common.{◌≡◌, ◌∙◌, false, ap}
 use Rattle.image_defs.specs.Ports.{lane_port, CanBegin}
-use Rattle.port_bank.proofs.LaneLemmas.{in_lane}
+use Rattle.port_bank.proofs.lemmas.LaneLemmas.{in_lane}
 use Rattle.port_array.proofs.LaneKept.{all_read, ready_begun}
 use Rattle.port_array.proofs.port.ArrayPort.begin_turn.Goals as goal
 

@@ -1,6 +1,6 @@
 use Rattle.std.proofs.Common.{◌≡◌, ◌∙◌, true, ap}
 use Rattle.image_defs.specs.Ports.{lane_port, CanEnd}
-use Rattle.port_bank.proofs.LaneLemmas.{in_lane}
+use Rattle.port_bank.proofs.lemmas.LaneLemmas.{in_lane}
 use Rattle.port_array.proofs.LaneKept.{ready_ended}
 use Rattle.port_array.proofs.port.ArrayPort.end_turn.Goals as goal
 

@@ -1,7 +1,7 @@
 use Rattle.std.proofs.Common.{◌≡◌, ◌∙◌, ap, subst}
 use Rattle.image_defs.specs.Places.{IsPort}
 use Rattle.image_defs.specs.WellFormed.{IsArray}
-use Rattle.port_bank.proofs.TurnLemmas.{seat_found}
+use Rattle.port_bank.proofs.lemmas.TurnLemmas.{seat_found}
 use Rattle.port_array.specs.code.Lanes.{AreFirst}
 use Rattle.port_array.proofs.KeptLemmas.{blocks_few}
 use Rattle.port_array.proofs.LaneKept.{ready_first}

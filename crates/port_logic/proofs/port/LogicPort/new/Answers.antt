@@ -1,7 +1,7 @@
 use Rattle.std.proofs.Common.{◌≡◌, ◌∙◌, ap, subst}
 use Rattle.image_defs.specs.Places.{IsPort}
 use Rattle.image_defs.specs.WellFormed.{IsLogic}
-use Rattle.port_bank.proofs.TurnLemmas.{seat_found}
+use Rattle.port_bank.proofs.lemmas.TurnLemmas.{seat_found}
 use Rattle.port_logic.proofs.TaskLemmas.{tasks_tabled, tasks_within, ready_first}
 use Rattle.port_logic.proofs.port.LogicPort.new.Goals as goal
 

@@ -6,7 +6,7 @@ use Rattle.port_run.specs.Kept.{view_of}
 use Rattle.port_run.specs.Pairs.{IsDone, RunView}
 use Rattle.port_run.specs.code.Steps.{IsUpcoming}
 use Rattle.port_run.proofs.RunLemmas.{few_turns, upcoming}
-use Rattle.port_run.proofs.StepLemmas.{step_of}
+use Rattle.port_run.proofs.lemmas.StepLemmas.{step_of}
 use Rattle.port_run.proofs.running.Running.step.Goals as goal
 
 pub ask-requires-clause-next : goal.ask-requires-clause-next

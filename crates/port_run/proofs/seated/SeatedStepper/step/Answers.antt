@@ -1,4 +1,4 @@
-use Rattle.port_run.proofs.StepLemmas.{run_waits}
+use Rattle.port_run.proofs.lemmas.StepLemmas.{run_waits}
 use Rattle.port_run.proofs.seated.SeatedStepper.step.Goals as goal
 
 pub returns-clause-not_yet : goal.returns-clause-not_yet

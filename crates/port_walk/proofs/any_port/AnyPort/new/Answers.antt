@@ -3,7 +3,7 @@ use Rattle.net_defs.specs.Valid.{IsValidStimulus}
 use Rattle.image_defs.specs.Places.{IsPort}
 use Rattle.image_defs.specs.Ports.{PortView, at_first}
 use Rattle.image_defs.specs.WellFormed.{IsWellFormed}
-use Rattle.port_walk.proofs.KindLemmas.{seat_there}
+use Rattle.port_walk.proofs.lemmas.KindLemmas.{seat_there}
 use Rattle.port_walk.proofs.any_port.AnyPort.new.Goals as goal
 
 pub bounds-as_slice-port : goal.bounds-as_slice-port

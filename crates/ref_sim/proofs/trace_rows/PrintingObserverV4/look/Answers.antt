@@ -1,6 +1,6 @@
 use Rattle.std.proofs.Common.{◌∙◌, ap, set}
 use Rattle.ref_sim.proofs.PrintLemmas.{printed_more}
-use Rattle.net_ops.proofs.Writes.{refill_set}
+use Rattle.net_ops.proofs.lemmas.Writes.{refill_set}
 use Rattle.ref_sim.proofs.trace_rows.PrintingObserverV4.look.Goals as goal
 
 pub returns-clause-seen : goal.returns-clause-seen

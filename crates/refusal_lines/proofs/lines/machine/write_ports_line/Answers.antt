@@ -3,7 +3,7 @@ use Rattle.std.proofs.Common.{◌∙◌, ap, [], ◌∷◌, List, ℕ}
 use Rattle.std.specs.Prelude.{codes, decimal}
 use Rattle.refusal_lines.specs.Lines.{ports_line}
 use Rattle.edge_io.specs.Writing.{joined}
-use Rattle.edge_io.proofs.WritingLemmas.{writes_same}
+use Rattle.edge_io.proofs.lemmas.WritingLemmas.{writes_same}
 use Rattle.refusal_lines.proofs.lines.machine.write_ports_line.Goals as goal
 
 pub returns : goal.returns

@@ -1,7 +1,7 @@
 -- The names are written, and then the end of the line.
 use Rattle.std.proofs.Common.{refl}
 use Rattle.refusal_lines.specs.Lines.{loop_line}
-use Rattle.edge_io.proofs.WritingLemmas.{writes_then, writes_stop}
+use Rattle.edge_io.proofs.lemmas.WritingLemmas.{writes_then, writes_stop}
 use Rattle.refusal_lines.proofs.lines.netlist.write_loop_line.Goals as goal
 
 pub returns-in-Ok : goal.returns-in-Ok

@@ -1,6 +1,6 @@
 -- The word is written, and then the names.
 use Rattle.std.proofs.Common.{refl}
-use Rattle.edge_io.proofs.WritingLemmas.{writes_then, writes_stop}
+use Rattle.edge_io.proofs.lemmas.WritingLemmas.{writes_then, writes_stop}
 use Rattle.refusal_lines.proofs.lines.netlist.write_members.Goals as goal
 
 pub returns-in-Ok : goal.returns-in-Ok

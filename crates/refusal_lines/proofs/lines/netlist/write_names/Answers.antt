@@ -4,7 +4,7 @@ use Rattle.std.specs.Prelude.{codes}
 use Rattle.std.proofs.lemmas.Grind.{get_or_default_zero}
 use Rattle.std.proofs.lemmas.List.{append-nil}
 use Rattle.net_defs.specs.Canonical.{name_of}
-use Rattle.edge_io.proofs.WritingLemmas.{writes_none, writes_more, writes_ended, writes_all}
+use Rattle.edge_io.proofs.lemmas.WritingLemmas.{writes_none, writes_more, writes_ended, writes_all}
 use Rattle.refusal_lines.proofs.lines.netlist.write_names.Goals as goal
 
 pub members-init : goal.members-init

@@ -1,6 +1,6 @@
 use Rattle.std.proofs.Common.{ap, false, length, subst, sym, ◌%◌, ◌<◌, ◌∙◌, ◌≡◌}
 use Rattle.std.proofs.lemmas.Option.{slice_get_within}
-use Rattle.event_defs.proofs.PaceLemmas.{source}
+use Rattle.event_defs.proofs.lemmas.PaceLemmas.{source}
 use Rattle.event_defs.specs.Places.{is_in}
 use Rattle.slot_words.proofs.HeldLemmas.{gives, held_found, own_fields, reseated, take_finds, take_word, word_room}
 use Rattle.slot_words.proofs.AllowLemmas.{take_allowed}

@@ -2,7 +2,7 @@ use Rattle.std.proofs.Common.{◌≡◌, ◌+◌, ◌∷◌, length, sym, ap, �
 use Rattle.std.specs.List.{enumerate_from}
 use Rattle.std.proofs.lemmas.List.{nil_from_length}
 use Rattle.text_lines.specs.Lines.{parts_of}
-use Rattle.text_lines.proofs.LineLemmas.{parts_of-nil, parts_of_first}
+use Rattle.text_lines.proofs.lemmas.LineLemmas.{parts_of-nil, parts_of_first}
 use Rattle.text_lines.proofs.lines.LinesIterator.next.Goals as goal
 
 pub returns-then-is_empty-clause-steps : goal.returns-then-is_empty-clause-steps

@@ -1,7 +1,7 @@
 use Rattle.std.proofs.Common.{Some, ◌+◌, ◌∙◌, ap, refl}
 use Rattle.std.proofs.lemmas.List.{length_push}
 use Rattle.crew_run.specs.Crews.{CanTell}
-use Rattle.crew_run.proofs.Places.{each_push}
+use Rattle.crew_run.proofs.lemmas.Places.{each_push}
 use Rattle.yse.specs.contracts.tests.watch.WatchGateGate.TheImpl as watch_gate
 use Rattle.yse.proofs.tests.threads.watch_gates.Goals as goal
 

@@ -1,6 +1,6 @@
 -- Its gates are new, so that they have room for the turns of any members.
 use Rattle.std.proofs.Common.{arith}
-use Rattle.crew_run.proofs.RoomLemmas.{can_run_with}
+use Rattle.crew_run.proofs.lemmas.RoomLemmas.{can_run_with}
 use Rattle.yse.proofs.tests.below.of_crew_run.rounds.Goals as goal
 
 pub run_with-requires-after_bounds : goal.run_with-requires-after_bounds

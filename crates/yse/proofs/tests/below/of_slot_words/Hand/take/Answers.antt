@@ -2,7 +2,7 @@ use Rattle.event_defs.specs.declared.place.Event.TheVariants as event
 use Rattle.crew_run.specs.declared.stepper.Step.TheVariants.{Moved, NotYet}
 use Rattle.port_run.specs.Kept.{view_of}
 use Rattle.port_run.proofs.RunLemmas.{kept_after, may_take, missed_placed, missed_wait, took_event, took_placed}
-use Rattle.port_run.proofs.StepLemmas.{step_of}
+use Rattle.port_run.proofs.lemmas.StepLemmas.{step_of}
 use Rattle.yse.proofs.tests.below.of_slot_words.Hand.take.Goals as goal
 
 pub took-requires : goal.took-requires

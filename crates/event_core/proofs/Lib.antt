@@ -1,5 +1,0 @@
-mod CoreLemmas
-mod EventLemmas
-mod RoundLemmas
-mod SeatLemmas
-mod StartLemmas

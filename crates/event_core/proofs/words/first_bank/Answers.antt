@@ -1,6 +1,0 @@
-use Rattle.std.proofs.Common.{sym}
-use Rattle.std.proofs.Math.Nat.{zero-mod}
-use Rattle.event_core.proofs.words.first_bank.Goals as goal
-
-pub returns : goal.returns
-returns c = c.next_bank.ensures 0 (sym (zero-mod c.args.banks))

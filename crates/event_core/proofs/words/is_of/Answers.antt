@@ -1,6 +1,0 @@
-use Rattle.std.proofs.Common.{◌/◌, eq-eqb}
-use Rattle.std.proofs.lemmas.Bool.{eqb-true}
-use Rattle.event_core.proofs.words.is_of.Goals as goal
-
-pub returns : goal.returns
-returns c = (eqb-true (c.args.word / 4) c.args.turn, eq-eqb (c.args.word / 4) c.args.turn)

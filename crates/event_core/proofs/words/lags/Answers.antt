@@ -1,6 +1,0 @@
-use Rattle.std.proofs.Common.{◌-◌, lt-ltb}
-use Rattle.std.proofs.lemmas.Bool.{ltb-true}
-use Rattle.event_core.proofs.words.lags.Goals as goal
-
-pub returns : goal.returns
-returns c = rw c.saturating_sub.ensures (ltb-true c.args.finished (c.args.turn - c.args.banks), lt-ltb c.args.finished (c.args.turn - c.args.banks))

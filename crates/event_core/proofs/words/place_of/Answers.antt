@@ -1,5 +1,0 @@
-use Rattle.std.proofs.Common.{refl}
-use Rattle.event_core.proofs.words.place_of.Goals as goal
-
-pub returns : goal.returns
-returns c = refl

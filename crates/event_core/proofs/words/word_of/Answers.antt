@@ -1,5 +1,0 @@
-use Rattle.std.proofs.Common.{◌+◌, ◌*◌, ap}
-use Rattle.event_core.proofs.words.word_of.Goals as goal
-
-pub returns : goal.returns
-returns c = ap (λ code. 4 * c.args.turn + code) c.code.ensures

@@ -1,4 +1,0 @@
-pub mod code
-pub mod Core
-pub mod Kept
-pub mod Seats

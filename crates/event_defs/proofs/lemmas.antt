@@ -1,0 +1,10 @@
+pub mod AlikeLemmas
+pub mod JoinLemmas
+pub mod KeptLemmas
+pub mod NextLemmas
+pub mod PaceLemmas
+pub mod RowLemmas
+pub mod RunLemmas
+pub mod SlotLemmas
+pub mod StampLemmas
+pub mod WordLemmas

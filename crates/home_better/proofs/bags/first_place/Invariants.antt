@@ -1,6 +1,0 @@
-use Rattle.std.proofs.Common.{◌≢◌, ℕ, ◌<◌}
-use Rattle.home_better.specs.code.Bags.{entry_at}
-use Rattle.home_better.proofs.bags.first_place.Given as goal
-
-abbrev pub invariant-entries : goal.invariant-entries
-invariant-entries l = (k : ℕ) → k < l.k → (entry_at l.bag k).key ≢ l.key

@@ -1,5 +1,0 @@
-use Rattle.std.proofs.Common.{rules}
-use Rattle.home_better.proofs.bags.give.Goals as goal
-
-pub add-requires-clause-new : goal.add-requires-clause-new
-add-requires-clause-new c = search rules

@@ -1,5 +1,0 @@
-use Rattle.home_better.proofs.ReaderLemmas.{crossings_counted}
-use Rattle.home_better.proofs.law.crossings_are_readers.Goals as goal
-
-pub returns : goal.returns
-returns c = crossings_counted

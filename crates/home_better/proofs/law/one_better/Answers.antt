@@ -1,5 +1,0 @@
-use Rattle.home_better.proofs.PassLemmas.{one_better}
-use Rattle.home_better.proofs.law.one_better.Goals as goal
-
-pub returns : goal.returns
-returns c = one_better

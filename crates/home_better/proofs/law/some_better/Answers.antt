@@ -1,5 +1,0 @@
-use Rattle.home_better.proofs.PassLemmas.{some_better}
-use Rattle.home_better.proofs.law.some_better.Goals as goal
-
-pub returns : goal.returns
-returns c = some_better

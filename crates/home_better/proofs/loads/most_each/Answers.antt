@@ -1,6 +1,0 @@
-use Rattle.std.proofs.Common.{rules}
-use Rattle.std.proofs.lemmas.Grind.{common_steps}
-use Rattle.home_better.proofs.loads.most_each.Goals as goal
-
-pub ports-preserved : goal.ports-preserved
-ports-preserved c = search (rules, common_steps)

@@ -1,5 +1,0 @@
-use Rattle.std.proofs.Common.{arith}
-use Rattle.home_better.proofs.spread.covers.Goals as goal
-
-pub numbers-init : goal.numbers-init
-numbers-init c q low = absurd (omega (arith, low))

@@ -1,5 +1,0 @@
-use Rattle.std.proofs.Common.{◌≡◌, length}
-use Rattle.home_better.proofs.uses.count_places.Given as goal
-
-abbrev pub invariant-taken : goal.invariant-taken
-invariant-taken l = length l.places ≡ length l.fn.places

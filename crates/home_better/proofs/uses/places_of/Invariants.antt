@@ -1,5 +1,0 @@
-use Rattle.std.proofs.Common.{◌≡◌, length}
-use Rattle.home_better.proofs.uses.places_of.Given as goal
-
-abbrev pub invariant-items : goal.invariant-items
-invariant-items l = length l.places ≡ length l.takes

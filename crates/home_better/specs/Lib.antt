@@ -1,4 +1,0 @@
-pub mod Bags
-pub mod Better
-pub mod code
-pub mod Crossings

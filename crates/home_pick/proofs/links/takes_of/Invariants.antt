@@ -1,0 +1,14 @@
+use Rattle.std.proofs.Common.{◌≡◌, ℕ, ◌<◌, ◌≤◌, length}
+use Rattle.home_pick.specs.code.Bags.{times}
+use Rattle.home_pick.specs.Crossings.{uses_by}
+use Rattle.home_pick.specs.code.Uses.{bag_at, AreBags}
+use Rattle.home_pick.proofs.links.takes_of.Given as goal
+
+abbrev pub invariant-items : goal.invariant-items
+invariant-items l = record {
+  whole : l.items ≡ l.nodes.items;
+  size : length l.takes ≡ l.u;
+  bags : AreBags l.takes;
+  few : (u : ℕ) → length (bag_at l.takes u) ≤ 4;
+  times : (u i : ℕ) → u < l.u → times (bag_at l.takes u) i ≡ uses_by l.nodes u i;
+}

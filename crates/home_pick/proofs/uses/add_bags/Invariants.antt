@@ -1,0 +1,11 @@
+use Rattle.std.proofs.Common.{◌≡◌, ℕ, length}
+use Rattle.home_pick.specs.code.Bags.{times}
+use Rattle.home_pick.specs.code.Uses.{bag_at, AreBags}
+use Rattle.home_pick.proofs.uses.add_bags.Given as goal
+
+abbrev pub invariant-bags : goal.invariant-bags
+invariant-bags l = record {
+  size : length l.bags ≡ l.i;
+  bags : AreBags l.bags;
+  none : (i q : ℕ) → times (bag_at l.bags i) q ≡ 0;
+}

@@ -1,0 +1,11 @@
+use Rattle.std.proofs.Common.{take}
+use Rattle.home_pick.specs.Bags.{where_at}
+use Rattle.home_pick.specs.code.Bags.{times}
+use Rattle.home_pick.specs.code.Uses.{AreBags, Gives}
+use Rattle.home_pick.proofs.uses.give_bag.Given as goal
+
+abbrev pub invariant-taken : goal.invariant-taken
+invariant-taken l = record {
+  bags : AreBags l.bags;
+  gives : Gives l.fn.bags l.bags (λ j q. where_at l.port q (times (take l.k l.taken) j));
+}

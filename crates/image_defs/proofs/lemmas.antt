@@ -1,0 +1,3 @@
+pub mod MatchLemmas
+pub mod PlaceLemmas
+pub mod ValueLemmas

@@ -1,4 +1,0 @@
-pub mod DrawLemmas
-pub mod Example
-pub mod SummaryLemmas
-pub mod ValidLemmas

@@ -1,5 +1,0 @@
-use Rattle.std.proofs.Common.{refl}
-use Rattle.large_gen.proofs.draws.Draws.reached.Goals as goal
-
-pub returns : goal.returns
-returns c = refl

@@ -1,7 +1,0 @@
-use Rattle.std.proofs.Common.{refl}
-use Rattle.large_gen.specs.Large.{input_signal}
-use Rattle.large_gen.proofs.DrawLemmas.{list_more}
-use Rattle.large_gen.proofs.netlist.push_inputs.Goals as goal
-
-pub inputs-preserved : goal.inputs-preserved
-inputs-preserved c = list_more c.args.signals.now c.inputs.signals _ input_signal _ c.inputs.i c.inputs.invariant c.in_ok-push.ensures.ok (rw c.in_ok-name.ensures refl)

@@ -1,4 +1,0 @@
-pub mod code
-pub mod Draws
-pub mod Large
-pub mod Summaries

@@ -1,0 +1,37 @@
+-- Tests that each of the four values passes.
+use Rattle.std.proofs.Common.{◌≡◌, ◌∙◌, Bool, true, ◌&&◌, eqb, eqb-true, sym, ap}
+use Rattle.std.proofs.lemmas.Bool.{and_parts}
+use Rattle.logic_four.specs.declared.V4.{V4}
+use Rattle.logic_four.specs.declared.V4.TheVariants.{Zero, One, Undef, HighZ}
+use Rattle.logic_four.specs.Values.{code_of, value_of}
+use Rattle.logic_four.proofs.lemmas.CodeLemmas.{value_of-code_of}
+
+abbrev pub same : V4 → V4 → Bool
+same v w = eqb (code_of v) (code_of w)
+
+-- values that pass the test are the same
+pub same_true : (v w : V4) → same v w ≡ true → v ≡ w
+same_true v w e = sym (value_of-code_of v) ∙ ap value_of (eqb-true (code_of v) (code_of w) e) ∙ value_of-code_of w
+
+abbrev pub for_each : (V4 → Bool) → Bool
+for_each test = test Zero && (test One && (test Undef && test HighZ))
+
+-- what each passes this one passes
+pub at_value : (test : V4 → Bool) (v : V4) → for_each test ≡ true → test v ≡ true
+at_value test v e = by_value v where
+  one : (test One && (test Undef && test HighZ)) ≡ true
+  one = (and_parts (test Zero) (test One && (test Undef && test HighZ)) e).1
+
+  last : (test Undef && test HighZ) ≡ true
+  last = (and_parts (test One) (test Undef && test HighZ) one).1
+
+  by_value : (v : V4) → test v ≡ true
+  by_value Zero = (and_parts (test Zero) (test One && (test Undef && test HighZ)) e).0
+  by_value One = (and_parts (test One) (test Undef && test HighZ) one).0
+  by_value Undef = (and_parts (test Undef) (test HighZ) last).0
+  by_value HighZ = (and_parts (test Undef) (test HighZ) last).1
+
+-- functions of two values that answer all sixteen pairs alike
+pub two_same : (f g : V4 → V4 → V4) → for_each (λ v. for_each (λ w. same (f v w) (g v w))) ≡ true → (v w : V4) → f v w ≡ g v w
+two_same f g test v w =
+    same_true (f v w) (g v w) (at_value (λ w. same (f v w) (g v w)) w (at_value (λ v. for_each (λ w. same (f v w) (g v w))) v test))

@@ -1,0 +1,4 @@
+pub mod LinesLemmas
+pub mod RoomLemmas
+pub mod TurnLemmas
+pub mod VisitLemmas

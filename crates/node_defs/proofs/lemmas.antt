@@ -1,0 +1,5 @@
+pub mod EarlierLemmas
+pub mod GroupLemmas
+pub mod LevelLemmas
+pub mod MemberLemmas
+pub mod NameLemmas

@@ -1,0 +1,110 @@
+-- A core before its first event.
+use Rattle.std.proofs.Common.{List, Some, [], ap, ap₂, arith, inl, inr, length, length-append, map, max, min, refl, replicate, slice_get, slice_index_or, subst, sym, ℕ, ◌%◌, ◌*◌, ◌++◌, ◌+◌, ◌∙◌, ◌∷◌, ◌≡◌, ◌≤◌}
+use Rattle.std.proofs.Math.Path.{fun_ext}
+use Rattle.std.proofs.lemmas.Bool.{cases_lt}
+use Rattle.std.proofs.lemmas.List.{get_or_past, length-map, length-replicate}
+use Rattle.std.proofs.lemmas.Option.{slice_get_within, get_or_from_slice_get, slice_get_cases}
+use Rattle.list_laws.proofs.Places.{at_front, seam_at}
+use Rattle.list_laws.proofs.Ranges.{replicate_read}
+use Rattle.net_defs.specs.Time.{cycle_count, turn_count}
+use Rattle.net_defs.specs.Valid.{IsValidStimulus}
+use Rattle.net_defs.specs.declared.stimulus.Stimulus.{Stimulus}
+use Rattle.image_defs.specs.Steps.{timing_of}
+use Rattle.image_defs.specs.WellFormed.{IsWellFormed}
+use Rattle.image_defs.specs.declared.image.Image.{Image}
+use Rattle.event_defs.proofs.lemmas.KeptLemmas.{starts_sound}
+use Rattle.event_defs.proofs.lemmas.RowLemmas.{words_zero}
+use Rattle.event_defs.proofs.lemmas.SlotLemmas.{to_map}
+use Rattle.event_defs.specs.Places.{start}
+use Rattle.event_defs.specs.Row.{send_count, word_in}
+use Rattle.event_defs.specs.Sound.{IsSound}
+use Rattle.event_defs.specs.Steps.{CoreState, first_state}
+use Rattle.event_defs.specs.declared.place.Place.{Place}
+use Rattle.port_walk.specs.Placed.{PlacedPort, at_start, block_end, place_of}
+use Rattle.order_run.specs.Core.{IsSoundCore, IsStart, state_of}
+use Rattle.order_run.specs.Kept.{IsKept, IsSeat, view_of}
+use Rattle.order_run.specs.code.Made.{AreFirstSeats, IsFirstSeat, whole_run}
+use Rattle.order_run.specs.Seats.{place_in}
+use Rattle.order_run.specs.declared.core_run.Core.TheInside.{Inside}
+use Rattle.order_run.specs.declared.seats.Seat.{Seat}
+
+-- the seat of a port before its first event stands at the start
+pub seat_starts : (image : Image) (stimulus : Stimulus) (banks p : ℕ) (seat : Seat) → IsFirstSeat image stimulus banks p seat → place_in seat ≡ start (length image.ports)
+seat_starts image stimulus banks p seat first = ap₂ (λ (w : PlacedPort) (known : List ℕ). place_of w known) first.port first.known
+
+-- one block of all cycles has all turns
+whole_end : (image : Image) (stimulus : Stimulus) → block_end image stimulus 0 (whole_run stimulus) ≡ turn_count (timing_of image) stimulus
+whole_end image stimulus = ap (λ n. image.units * n) all where
+  all : min (0 + max 1 (cycle_count stimulus)) (cycle_count stimulus) ≡ cycle_count stimulus
+  all = omega arith
+
+pub seat_fits : (image : Image) (stimulus : Stimulus) (banks p : ℕ) (seat : Seat) → IsFirstSeat image stimulus banks p seat → IsSeat image stimulus banks p seat
+seat_fits image stimulus banks p seat first = record {
+  port = subst (λ (w : PlacedPort). w ≡ record w { image = image; stimulus = stimulus; port = p; first_row = 0; until = turn_count (timing_of image) stimulus }) (sym first.port)
+      (ap {A = ℕ} {B = PlacedPort} (λ n. record (at_start image stimulus p (whole_run stimulus)) { until = n }) (whole_end image stimulus));
+  bank = first.bank ∙ ap (λ (w : PlacedPort). w.turn % banks) (sym first.port);
+  first = first.first;
+  sources = first.sources;
+}
+
+module _ (a : Inside) (fits : IsWellFormed a.image.now) (valid : IsValidStimulus a.stim.now) (some : 1 ≤ a.banks) (until : a.until ≡ turn_count (timing_of a.image.now) a.stim.now)
+    (seats : AreFirstSeats a.image.now a.stim.now a.banks (length a.image.now.ports) a.seats)
+    (finished : a.finished ≡ replicate (length a.image.now.ports) 0)
+    (words : a.words ≡ replicate (send_count a.image.now * a.banks) 0) where
+  starts_at : (q : ℕ) → slice_index_or (map place_in a.seats) q (start (length a.image.now.ports)) ≡ start (length a.image.now.ports)
+  starts_at q = elim (slice_get_cases a.seats q).1 [
+    | inl there ↦
+        get_or_from_slice_get (map place_in a.seats) q (place_in there.0) (start (length a.image.now.ports)) (to_map place_in a.seats q there.0 there.2)
+        ∙ seat_starts a.image.now a.stim.now a.banks q there.0 (seats.each q there.0 there.2)
+    | inr past ↦ get_or_past (map place_in a.seats) q (start (length a.image.now.ports)) (let far = past.0 in let long = length-map a.seats place_in in omega arith)
+  ]
+
+  pub start_state : state_of (view_of a) ≡ first_state (length a.image.now.ports)
+  start_state =
+      let places : ◌≡◌ {A = ℕ → Place} (λ q. slice_index_or (map place_in a.seats) q (start (length a.image.now.ports))) (λ q. start (length a.image.now.ports)) = fun_ext (λ q. starts_at q) in
+      let none_finished : ◌≡◌ {A = ℕ → ℕ} (λ q. slice_index_or a.finished q 0) (λ q. 0) = fun_ext (λ q. ap (λ xs. slice_index_or xs q 0) finished ∙ replicate_read (length a.image.now.ports) q 0) in
+      let none_written : ◌≡◌ {A = ℕ → ℕ → ℕ → ℕ} (word_in a.image.now a.banks a.words) (λ p i b. 0) = ap (word_in a.image.now a.banks) words ∙ words_zero a.image.now a.banks (send_count a.image.now * a.banks) in
+      ap {A = ℕ → Place} {B = CoreState} (λ f. record { place = f; finished = λ q. slice_index_or a.finished q 0; word = word_in a.image.now a.banks a.words }) places
+      ∙ (ap {A = ℕ → ℕ} {B = CoreState} (λ f. record { place = λ q. start (length a.image.now.ports); finished = f; word = word_in a.image.now a.banks a.words }) none_finished
+      ∙ ap {A = ℕ → ℕ → ℕ → ℕ} {B = CoreState} (λ w. record { place = λ q. start (length a.image.now.ports); finished = λ q. 0; word = w }) none_written)
+
+  pub start_sound : IsSoundCore (view_of a)
+  start_sound = subst (IsSound a.image.now a.stim.now a.banks (turn_count (timing_of a.image.now) a.stim.now)) (sym start_state) (starts_sound a.image.now a.stim.now a.banks (turn_count (timing_of a.image.now) a.stim.now) fits some)
+
+  pub start_kept : IsKept a
+  start_kept = record {
+    image = fits;
+    stimulus = valid;
+    some = some;
+    until = until;
+    seats = seats.long;
+    finished = ap length finished ∙ length-replicate (length a.image.now.ports) 0;
+    words = ap length words ∙ length-replicate (send_count a.image.now * a.banks) 0;
+    each = λ p seat at. seat_fits a.image.now a.stim.now a.banks p seat (seats.each p seat at);
+    sound = start_sound;
+  }
+
+  pub is_start : IsStart a.image.now a.stim.now a.banks (view_of a)
+  is_start = record { image_is = refl; stimulus_is = refl; banks_are = refl; state = start_state }
+
+-- one more seat
+pub seats_more : (image : Image) (stimulus : Stimulus) (banks n : ℕ) (seat : Seat) (seats next : List Seat) → AreFirstSeats image stimulus banks n seats → IsFirstSeat image stimulus banks n seat → next ≡ seats ++ seat ∷ [] → AreFirstSeats image stimulus banks (n + 1) next
+seats_more image stimulus banks n seat seats next are first pushed = record {
+  long = long;
+  each = λ p other at.
+      let size = long in
+      let low = slice_get_within next p other at in
+      let count = are.long in
+      let here : slice_get (seats ++ seat ∷ []) p ≡ Some other = ap (λ xs. slice_get xs p) (sym pushed) ∙ at in
+      elim (cases_lt p n) [
+        | inl before ↦ are.each p other (sym (at_front seats (seat ∷ []) p (omega arith)) ∙ here)
+        | inr last ↦
+            let same : p ≡ n = omega arith in
+            let place : p ≡ length seats = omega arith in
+            let twice : Some seat ≡ Some other = sym (seam_at seats seat []) ∙ (ap (λ k. slice_get (seats ++ seat ∷ []) k) (sym place) ∙ here) in
+            let is : seat ≡ other = cc in
+            subst (λ k. IsFirstSeat image stimulus banks k other) (sym same) (subst (IsFirstSeat image stimulus banks n) is first)
+      ];
+} where
+  long : length next ≡ n + 1
+  long = ap length pushed ∙ (ap (λ k. k) (length-append seats (seat ∷ [])) ∙ (let count = are.long in let one : length (seat ∷ []) ≡ 1 = refl in omega arith))

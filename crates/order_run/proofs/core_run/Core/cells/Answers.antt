@@ -1,0 +1,33 @@
+use Rattle.std.proofs.Common.{◌∙◌, ◌≤◌, length, ap, ap₂, subst, sym}
+use Rattle.net_defs.specs.declared.stimulus.Stimulus.{Stimulus}
+use Rattle.image_defs.specs.declared.image.Image.{Image}
+use Rattle.image_defs.specs.Frames.{shown}
+use Rattle.port_host.specs.Rows.{printed_sources}
+use Rattle.order_run.specs.Core.{CoreView, rows_of}
+use Rattle.order_run.proofs.RoundLemmas.{first_here, host_there, image_here, stimulus_here, is_host, rows_here}
+use Rattle.order_run.proofs.core_run.Core.cells.Goals as goal
+
+pub cells-requires-clause-host : goal.cells-requires-clause-host
+cells-requires-clause-host c seat at = is_host c.self.inside c.self.invariant c.len.result c.len.ensures c.as_slice.result.now c.as_slice.ensures seat at
+
+pub cells-requires-clause-all : goal.cells-requires-clause-all
+cells-requires-clause-all c seat at = first_here c.self.inside c.self.invariant c.len.result c.len.ensures c.as_slice.result.now c.as_slice.ensures seat at
+
+pub cells-requires-clause-done : goal.cells-requires-clause-done
+cells-requires-clause-done c seat at =
+    let rows = rows_here c.self.inside c.self.invariant c.len.result c.len.ensures c.as_slice.result.now c.as_slice.ensures seat at in
+    subst (λ n. c.args.cycle ≤ n) (sym (rows ∙ ap rows_of c.self.view_is)) c.requires.done
+
+pub returns-clause-long : goal.returns-clause-long
+returns-clause-long c =
+    let host = host_there c.self.inside c.self.invariant c.len.result c.len.ensures c.as_slice.result.now c.as_slice.ensures in
+    let image = image_here c.self.inside c.self.invariant c.len.result c.len.ensures c.as_slice.result.now c.as_slice.ensures host.0 host.1 in
+    (c.cells.ensures host.0 host.1).long ∙ ap (λ (i : Image). length (printed_sources i)) (image ∙ ap (λ (v : CoreView). v.image) c.self.view_is)
+
+pub returns-clause-cells : goal.returns-clause-cells
+returns-clause-cells c j low =
+    let host = host_there c.self.inside c.self.invariant c.len.result c.len.ensures c.as_slice.result.now c.as_slice.ensures in
+    let image = image_here c.self.inside c.self.invariant c.len.result c.len.ensures c.as_slice.result.now c.as_slice.ensures host.0 host.1 in
+    let stimulus = stimulus_here c.self.inside c.self.invariant c.len.result c.len.ensures c.as_slice.result.now c.as_slice.ensures host.0 host.1 in
+    (c.cells.ensures host.0 host.1).shows j low
+    ∙ ap₂ (λ (i : Image) (s : Stimulus). shown i s c.args.cycle j) (image ∙ ap (λ (v : CoreView). v.image) c.self.view_is) (stimulus ∙ ap (λ (v : CoreView). v.stimulus) c.self.view_is)

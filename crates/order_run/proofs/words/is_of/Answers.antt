@@ -1,0 +1,6 @@
+use Rattle.std.proofs.Common.{◌/◌, eq-eqb}
+use Rattle.std.proofs.lemmas.Bool.{eqb-true}
+use Rattle.order_run.proofs.words.is_of.Goals as goal
+
+pub returns : goal.returns
+returns c = (eqb-true (c.args.word / 4) c.args.turn, eq-eqb (c.args.word / 4) c.args.turn)

@@ -1,0 +1,44 @@
+-- What a core keeps.
+use Rattle.std.specs.Prelude.{◌≡◌, ℕ, ◌*◌, ◌%◌, ◌≤◌, length, map, Some, slice_get}
+use Rattle.net_defs.specs.declared.stimulus.Stimulus.{Stimulus}
+use Rattle.net_defs.specs.Time.{turn_count}
+use Rattle.net_defs.specs.Valid.{IsValidStimulus}
+use Rattle.image_defs.specs.declared.image.PortImage.{PortImage}
+use Rattle.image_defs.specs.declared.image.Image.{Image}
+use Rattle.image_defs.specs.Places.{IsPort}
+use Rattle.image_defs.specs.Steps.{timing_of}
+use Rattle.image_defs.specs.WellFormed.{IsWellFormed}
+use Rattle.event_defs.specs.Row.{send_count, sends_before}
+use Rattle.order_run.specs.declared.core_run.Core.TheInside.{Inside}
+use Rattle.order_run.specs.declared.seats.Seat.{Seat}
+use Rattle.order_run.specs.Core.{CoreView, IsSoundCore}
+use Rattle.event_defs.specs.Sources.{AreSources}
+use Rattle.order_run.specs.Seats.{place_in}
+
+abbrev pub view_of : Inside → CoreView
+view_of a = record {
+  image = a.image.now;
+  stimulus = a.stim.now;
+  banks = a.banks;
+  places = map place_in a.seats;
+  finished = a.finished;
+  words = a.words;
+}
+
+-- the seat of port p
+pub record IsSeat (image : Image) (stimulus : Stimulus) (banks p : ℕ) (seat : Seat) : Type 0 where
+  pub port : seat.port ≡ record seat.port { image = image; stimulus = stimulus; port = p; first_row = 0; until = turn_count (timing_of image) stimulus }
+  pub bank : seat.bank ≡ seat.port.turn % banks
+  pub first : seat.first ≡ sends_before image p
+  pub sources : (port : PortImage) → IsPort image p port → AreSources image port.ins (length port.ins) seat.sources
+
+pub record IsKept (a : Inside) : Type 0 where
+  pub image : IsWellFormed a.image.now
+  pub stimulus : IsValidStimulus a.stim.now
+  pub some : 1 ≤ a.banks
+  pub until : a.until ≡ turn_count (timing_of a.image.now) a.stim.now
+  pub seats : length a.seats ≡ length a.image.now.ports
+  pub finished : length a.finished ≡ length a.image.now.ports
+  pub words : length a.words ≡ send_count a.image.now * a.banks
+  pub each : (p : ℕ) (seat : Seat) → slice_get a.seats p ≡ Some seat → IsSeat a.image.now a.stim.now a.banks p seat
+  pub sound : IsSoundCore (view_of a)

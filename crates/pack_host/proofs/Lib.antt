@@ -1,4 +1,0 @@
-pub mod CellLemmas
-pub mod CursorLemmas
-pub mod FeedLemmas
-pub mod HostLemmas

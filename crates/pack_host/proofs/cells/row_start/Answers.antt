@@ -1,5 +1,0 @@
-use Rattle.std.proofs.Common.{refl}
-use Rattle.pack_host.proofs.cells.row_start.Goals as goal
-
-pub returns : goal.returns
-returns c = refl

@@ -1,4 +1,0 @@
-use Rattle.pack_host.proofs.feed.Feed.new.Goals as goal
-
-pub first_rows-requires : goal.first_rows-requires
-first_rows-requires c = rw c.as_slice.ensures c.requires.valid

@@ -1,4 +1,0 @@
-pub mod Cells
-pub mod code
-pub mod Kept
-pub mod Turns

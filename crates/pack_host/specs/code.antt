@@ -1,3 +1,0 @@
-pub mod Cells
-pub mod Feeds
-pub mod Turns

@@ -1,0 +1,4 @@
+pub mod AnswerLemmas
+pub mod ChainLemmas
+pub mod TracedLemmas
+pub mod VisitedLemmas
