@@ -91,10 +91,26 @@ pub fn observe_lanes<W: Wire, O: Observer<W>>(
 {
     let mut state = initial_state::<W>(alloc, net, timing, lanes)?;
     let mut ports = make_ports(alloc, net)?;
-    run(
-        observer, &mut state, &mut ports, net, timing, stim, schedule, forces,
-    );
+    let course = Course::<W> {
+        net,
+        timing,
+        stim,
+        schedule,
+        forces,
+    };
+    run(observer, &mut state, &mut ports, &course);
     Ok(())
+}
+
+/// What stays the same at all cycles of a run.
+#[derive(Drop)]
+struct Course<'a, W: Wire> {
+    net: &'a Netlist,
+    timing: &'a Timing,
+    stim: &'a Stimulus,
+    schedule: &'a Schedule<W::Form>,
+    /// Which signals are stuck.
+    forces: &'a W::Forces,
 }
 
 /// Runs all cycles, or fewer where the observer stops. It takes no memory.
@@ -102,31 +118,27 @@ fn run<W: Wire, O: Observer<W>>(
     observer: &mut O,
     state: &mut LaneState<W>,
     ports: &mut List<RamPort>,
-    net: &Netlist,
-    timing: &Timing,
-    stim: &Stimulus,
-    schedule: &Schedule<W::Form>,
-    forces: &W::Forces,
+    course: &Course<W>,
 )
-    requires valid { IsValid net.now }
-    requires schedule { IsSchedule W.answer W.is_form net.now timing.now schedule.now }
-    requires forces { (s : ℕ) → s < length net.now.signals → W.tells forces.now s }
-    requires ready { IsReady W.lanes net.now state.old ports.old }
-    requires start { (l : ℕ) → l < length state.old.memories → lane_state W.lane net.now l state.old ≡ first_state net.now timing.now }
-    requires observer { O.has_seen observer.old net.now [] (cycle_count stim.now) }
-    ensures watched { HasWatchedLanes W.lane (W.held forces.now) (length state.old.memories) net.now timing.now stim.now
-        (O.has_seen observer.new net.now) (O.goes_on observer.new) (cycle_count stim.now) }
+    requires valid { IsValid course.now.net.now }
+    requires schedule { IsSchedule W.answer W.is_form course.now.net.now course.now.timing.now course.now.schedule.now }
+    requires forces { (s : ℕ) → s < length course.now.net.now.signals → W.tells course.now.forces.now s }
+    requires ready { IsReady W.lanes course.now.net.now state.old ports.old }
+    requires start { (l : ℕ) → l < length state.old.memories
+        → lane_state W.lane course.now.net.now l state.old ≡ first_state course.now.net.now course.now.timing.now }
+    requires observer { O.has_seen observer.old course.now.net.now [] (cycle_count course.now.stim.now) }
+    ensures watched { HasWatchedLanes W.lane (W.held course.now.forces.now) (length state.old.memories)
+        course.now.net.now course.now.timing.now course.now.stim.now
+        (O.has_seen observer.new course.now.net.now) (O.goes_on observer.new) (cycle_count course.now.stim.now) }
     ensures size { O.size observer.new ≡ O.size observer.old }
 {
     let mut is_first = true;
-    'rows: for r in 0..stim.rows.len() {
-        let goes_on = run_row(
-            observer, state, ports, net, timing, stim, schedule, forces, r, is_first,
-        );
+    'rows: for r in 0..course.stim.rows.len() {
+        let goes_on = run_row(observer, state, ports, course, r, is_first);
         if !goes_on {
             return;
         }
-        is_first = is_still_first(is_first, stim.rows.as_slice()[r].times);
+        is_first = is_still_first(is_first, course.stim.rows.as_slice()[r].times);
     }
 }
 
@@ -135,42 +147,38 @@ fn run_row<W: Wire, O: Observer<W>>(
     observer: &mut O,
     state: &mut LaneState<W>,
     ports: &mut List<RamPort>,
-    net: &Netlist,
-    timing: &Timing,
-    stim: &Stimulus,
-    schedule: &Schedule<W::Form>,
-    forces: &W::Forces,
+    course: &Course<W>,
     r: usize,
     is_first: bool,
 ) -> bool
-    requires valid { IsValid net.now }
-    requires schedule { IsSchedule W.answer W.is_form net.now timing.now schedule.now }
-    requires forces { (s : ℕ) → s < length net.now.signals → W.tells forces.now s }
-    requires row { r < length stim.now.rows }
-    requires first { is_first ≡ (cycles_before stim.now r == 0) }
-    requires ready { IsReady W.lanes net.now state.old ports.old }
-    requires runs { RunsTo W.lane (W.held forces.now) net.now timing.now stim.now (O.has_seen observer.old net.now) true
-        (cycles_before stim.now r) state.old }
-    ensures ready { IsReady W.lanes net.now state.new ports.new }
+    requires valid { IsValid course.now.net.now }
+    requires schedule { IsSchedule W.answer W.is_form course.now.net.now course.now.timing.now course.now.schedule.now }
+    requires forces { (s : ℕ) → s < length course.now.net.now.signals → W.tells course.now.forces.now s }
+    requires row { r < length course.now.stim.now.rows }
+    requires first { is_first ≡ (cycles_before course.now.stim.now r == 0) }
+    requires ready { IsReady W.lanes course.now.net.now state.old ports.old }
+    requires runs { RunsTo W.lane (W.held course.now.forces.now) course.now.net.now course.now.timing.now course.now.stim.now
+        (O.has_seen observer.old course.now.net.now) true (cycles_before course.now.stim.now r) state.old }
+    ensures ready { IsReady W.lanes course.now.net.now state.new ports.new }
     ensures lanes { length state.new.memories ≡ length state.old.memories }
-    ensures runs { RunsTo W.lane (W.held forces.now) net.now timing.now stim.now (O.has_seen observer.new net.now) result
-        (cycles_before stim.now (r + 1)) state.new }
+    ensures runs { RunsTo W.lane (W.held course.now.forces.now) course.now.net.now course.now.timing.now course.now.stim.now
+        (O.has_seen observer.new course.now.net.now) result (cycles_before course.now.stim.now (r + 1)) state.new }
     ensures stops { result ≡ false → O.goes_on observer.new ≡ false }
     ensures size { O.size observer.new ≡ O.size observer.old }
 {
-    let row = &stim.rows.as_slice()[r];
+    let row = &course.stim.rows.as_slice()[r];
     'times: for time in 0..row.times {
         run_cycle(
             state,
             ports,
-            net,
-            timing,
-            schedule,
-            forces,
+            course.net,
+            course.timing,
+            course.schedule,
+            course.forces,
             row.values.as_slice(),
             is_still_first(is_first, time),
         );
-        let goes_on = observer.look(net, state.row(net));
+        let goes_on = observer.look(course.net, state.row(course.net));
         if !goes_on {
             return false;
         }

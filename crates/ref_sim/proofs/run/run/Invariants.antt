@@ -5,9 +5,9 @@ use Rattle.ref_sim.proofs.run.run.Given as goal
 
 abbrev pub invariant-rows : goal.invariant-rows
 invariant-rows g l = record {
-  ready : IsReady g.W.Wire.lanes l.net l.state l.ports;
+  ready : IsReady g.W.Wire.lanes l.course.net.now l.state l.ports;
   lanes : length l.state.memories ≡ length l.fn.state.memories;
-  first : l.is_first ≡ (cycles_before l.stim l.r == 0);
-  runs : RunsTo g.W.Wire.lane (g.W.Wire.held l.forces) l.net l.timing l.stim (g.O.Observer.has_seen l.observer l.net) true (cycles_before l.stim l.r) l.state;
+  first : l.is_first ≡ (cycles_before l.course.stim.now l.r == 0);
+  runs : RunsTo g.W.Wire.lane (g.W.Wire.held l.course.forces.now) l.course.net.now l.course.timing.now l.course.stim.now (g.O.Observer.has_seen l.observer l.course.net.now) true (cycles_before l.course.stim.now l.r) l.state;
   size : g.O.Observer.size l.observer ≡ g.O.Observer.size l.fn.observer;
 }
