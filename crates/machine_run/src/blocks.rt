@@ -33,6 +33,14 @@ use std::sync::Wait;
 use std::thread::Threads;
 use trace_text::TraceLine;
 
+/// How a run is divided: in how many banks the words of the crossbar stand, at least one, and how many workers step
+/// the ports, at least one.
+#[derive(Clone, Copy)]
+pub struct Division {
+    pub banks: u32,
+    pub workers: u32,
+}
+
 /// Runs the crew to the end of its block, and writes the lines of the block.
 fn run_block<R: Threads + Wait + Sync, G: Gate + Send, O: Sink>(
     rt: &R,
@@ -130,8 +138,7 @@ pub fn run_blocks<R: Threads + Wait + Sync, G: Gate + Send, O: Sink>(
     net: &Netlist,
     image: &Image,
     stim: &Stimulus,
-    banks: u32,
-    workers: u32,
+    division: Division,
     gates: &mut [Option<G>],
     out: &mut O,
 ) -> Result<Result<(), WriteNo>, Memory>
@@ -139,21 +146,22 @@ pub fn run_blocks<R: Threads + Wait + Sync, G: Gate + Send, O: Sink>(
     requires stimulus { IsValidStimulus stim.now }
     requires columns { stim.now.columns ≡ image.now.columns }
     requires printed { length net.now.printed ≡ length (printed_sources image.now) }
-    requires some_banks { 1 ≤ banks }
-    requires few_banks { banks ≤ MAX_BANKS }
-    requires some_workers { 1 ≤ workers }
-    requires enough { workers ≤ length gates.old }
-    requires tell { (i : ℕ) (gate : Option G) → i < workers → slice_get gates.old i ≡ Some gate → CanTell G.Gate.own gate }
+    requires some_banks { 1 ≤ division.banks }
+    requires few_banks { division.banks ≤ MAX_BANKS }
+    requires some_workers { 1 ≤ division.workers }
+    requires enough { division.workers ≤ length gates.old }
+    requires tell { (i : ℕ) (gate : Option G) → i < division.workers → slice_get gates.old i ≡ Some gate → CanTell G.Gate.own gate }
     ensures written { IfOk result (λ wrote. Takes (O.taken out.old) (O.taken out.new) (O.faults out.old) (O.faults out.new) wrote (bytes_of_run net.now image.now stim.now)) }
-    ensures visits { IfOk result (AreVisitsOfRun G.Gate.own image.now stim.now workers gates.old gates.new) }
-    ensures stopped { IfOk result (λ wrote. OnErr wrote (StopsInBlock net.now image.now stim.now G.Gate.own workers gates.old gates.new (O.taken out.old) (O.taken out.new))) }
+    ensures visits { IfOk result (AreVisitsOfRun G.Gate.own image.now stim.now division.workers gates.old gates.new) }
+    ensures stopped { IfOk result (λ wrote. OnErr wrote (StopsInBlock net.now image.now stim.now G.Gate.own division.workers gates.old gates.new (O.taken out.old) (O.taken out.new))) }
     ensures unwritten { OnErr result (out.new ≡ out.old) }
     ensures untold { OnErr result (gates.new ≡ gates.old) }
     ensures kept { AreInPlace gates.old gates.new }
 {
     let mut line = TraceLine::new(alloc, net)?;
-    let (bar, passes) = Crossbar::make(rt, alloc, image, stim, banks)?;
+    let (bar, passes) = Crossbar::make(rt, alloc, image, stim, division.banks)?;
     let window = window(image, net.printed.len());
+    let workers = division.workers;
     let mut crew = Crew::new(alloc, &bar, image, stim, passes, workers, window)?;
     let wrote = write_run(rt, net, stim.cycles(), &mut crew, gates, &mut line, out);
     crew.end();

@@ -16,7 +16,7 @@ mod seats;
 mod steps;
 mod window;
 
-pub use blocks::run_blocks;
+pub use blocks::{Division, run_blocks};
 pub use crew::Crew;
 pub use deal::{Seats, worker_of, workers_of};
 pub use gates::count_gates;

@@ -1,9 +1,8 @@
 //! The ports of a crew on their way to the next block.
 
 ghost use Rattle.std.specs.Prelude.{Some, slice_get, ℕ, ◌≡◌};
-ghost use Rattle.crew_run.specs.code.Phases.{Each};
 ghost use Rattle.crew_run.specs.declared.worker.Worker.{Worker as Of};
-ghost use Rattle.machine_run.specs.code.Moves.{AreMoved, HasGoneOn};
+ghost use Rattle.machine_run.specs.code.Moves.{AreMoved, HasGoneOn, HaveGoneOn};
 ghost use Rattle.port_run.specs.Pairs.{placed};
 ghost use Rattle.port_walk.specs.Placed.{CanGoOn};
 ghost use Rattle.port_run.specs.declared.seated.Seated.{Seated as Seat};
@@ -22,7 +21,7 @@ fn go_on(member: &mut Seated<'_>)
 /// The members of a worker go on.
 fn go_on_members(members: &mut [Seated<'_>])
     requires { (k : ℕ) (seat : Seat) → slice_get members.old k ≡ Some seat → CanGoOn (placed seat.run) }
-    ensures { Each HasGoneOn members.old members.new }
+    ensures { HaveGoneOn members.old members.new }
 {
     'members: for k in 0..members.len() {
         go_on(&mut members[k]);
@@ -32,7 +31,7 @@ fn go_on_members(members: &mut [Seated<'_>])
 /// A worker goes on with all its members.
 fn go_on_worker<'a, G>(worker: &mut Worker<Seated<'a>, G>)
     requires { (k : ℕ) (seat : Seat) → slice_get worker.old.members k ≡ Some seat → CanGoOn (placed seat.run) }
-    ensures { Each HasGoneOn worker.old.members worker.new.members }
+    ensures { HaveGoneOn worker.old.members worker.new.members }
 {
     go_on_members(worker.members.as_mut_slice());
 }

@@ -11,7 +11,7 @@ use crate::kind::{PackKind, first_kind};
 use image_defs::Image;
 use lane_planes::Planes;
 use port_walk::lists::lists_of;
-use port_walk::{Kind, Upcoming, Walk};
+use port_walk::{Upcoming, Walk};
 use seen_list::Memory;
 use std::alloc::Global;
 use std::marker::Model;
@@ -129,9 +129,9 @@ impl<'a> PackPlaced<'a> {
             (λ host. IsHostIn self.now host.now) }
     {
         match self.walk.port() {
-            Kind::Host(host) => Some(host),
-            Kind::Logic(_) => None,
-            Kind::Array(_) => None,
+            PackKind::Host(host) => Some(host),
+            PackKind::Logic(_) => None,
+            PackKind::Array(_) => None,
         }
     }
 }

@@ -21,8 +21,8 @@ use Rattle.port_bank.specs.Reads.{IsAtHand, IsRead, IsHeld, now_in, past_in, val
 use Rattle.port_bank.proofs.lemmas.TurnLemmas.{place_within, past_at_hand, past_taken}
 use Rattle.port_logic.specs.declared.op.Op.{Op}
 use Rattle.port_logic.specs.declared.op.Op.TheVariants.{Pair, Look, Keep}
-use Rattle.port_logic.specs.Ops.{IsFormIn, IsOp, IsPairOf, AreOpsOf}
-use Rattle.port_logic.specs.code.Ops.{AreFormsOf, IsTaskWithin, IsTabled, FitsOp}
+use Rattle.port_logic.specs.Ops.{IsFormIn, IsGate, IsOp, IsPairOf, AreOpsOf}
+use Rattle.port_logic.specs.code.Ops.{AreFormsOf, IsLookOf, IsTaskWithin, IsTabled, FitsOp}
 use Rattle.port_logic.specs.code.Tasks.{IsTaskAtHand, IsAnswer}
 
 module _ {P F : Type 0} (is_pair : Table → V4 → V4 → P → Type 0) (is_form : Table → F → Type 0) where
@@ -70,6 +70,14 @@ module _ {P F : Type 0} (is_pair : Table → V4 → V4 → P → Type 0) (is_for
         ∙ ap (λ v. registered (timing_of view.image) view.turn (settled v) ((past_in view).value view.port slot)) taken
         ∙ ap (λ t. registered (timing_of view.image) view.turn (settled (past_value view.port port.ins (past_in view).value source)) ((past_in view).value view.port t)) (sym at)
 
+  -- ---- a task laid flat
+
+  -- a gate of any operands, by its table
+  pub look_is : (slots : ℕ) (tables : List Table) (form : F) (table : ℕ) (a b p q : Source) (op : Op P F) → IsLookOf slots form table a b p q op → IsFormIn is_form (slice_get tables table) form
+      → (c d : Source) → p ≡ c → q ≡ d → IsGate is_pair is_form slots tables table a b c d op
+  look_is slots tables form table a b p q op is known c d c_is d_is =
+      subst (IsGate is_pair is_form slots tables table a b c d) (sym is) (known, refl, refl, refl, ap (operand_of slots) c_is, ap (operand_of slots) d_is)
+
   -- ---- what fits
 
   low_as : (places : ℕ) (one other : Operand) → one ≡ other → other.number < 2 * places → one.number < 2 * places
@@ -101,6 +109,14 @@ module _ {P F : Type 0} (is_pair : Table → V4 → V4 → P → Type 0) (is_for
       let here : i ≡ length xs = omega (arith, low, past, length-append xs (x ∷ [])) in
       let same : Some x ≡ Some y = sym (seam_at xs x []) ∙ ap (slice_get (xs ++ x ∷ [])) (sym here) ∙ at in
       (here, cc)
+
+  -- no task yet
+  pub ops_none : (slots : ℕ) (tables : List Table) (tasks : List Task) (ops : List (Op P F)) → ops ≡ [] → AreOpsOf is_pair is_form slots tables tasks 0 ops
+  ops_none slots tables tasks ops is =
+      subst (AreOpsOf is_pair is_form slots tables tasks 0) (sym is) (record {
+        long = refl;
+        each = λ i task op there at. let low : i < 0 = slice_get_within [] i op at in absurd (omega (arith, low));
+      })
 
   -- what one more table is known as
   pub forms_more : (tables : List Table) (n : ℕ) (forms : List F) (table : Table) (form : F) → AreFormsOf is_form tables n forms → slice_get tables n ≡ Some table → is_form table form

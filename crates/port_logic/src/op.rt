@@ -1,6 +1,6 @@
 //! Tasks laid flat: each operand is a number of a bank, and each gate says what its table is known as.
 
-ghost use Rattle.std.specs.Prelude.{◌<◌, ◌≤◌, length, slice_get, IfOk};
+ghost use Rattle.std.specs.Prelude.{◌≡◌, ◌<◌, ◌≤◌, length, slice_get, IfOk};
 ghost use Rattle.limits.specs.declared.TheConstants.{MAX_SLOTS};
 ghost use Rattle.image_defs.specs.Places.{Each};
 ghost use Rattle.port_bank.specs.Flat.{IsWithin};
@@ -12,10 +12,9 @@ use image_defs::{Source, Task};
 use port_bank::Word;
 use port_bank::steps::{Operand, operand_of};
 use seen_list::{List, Memory};
-use std::alloc::Global;
+use std::alloc::{AllocError, Global};
 
 /// What a task does, by operands of a bank.
-#[derive(Clone, Copy)]
 pub(crate) enum Op<P, F> {
     /// Answers two operands, of a gate whose third and fourth operands are constants.
     Pair {
@@ -36,6 +35,16 @@ pub(crate) enum Op<P, F> {
     Keep {
         from: Operand,
     },
+}
+
+impl<P: Copy, F: Copy> Copy for Op<P, F> {}
+
+impl<P: Copy, F: Copy> Clone for Op<P, F> {
+    ghost is_clone = { λ op copy. copy ≡ op };
+
+    fn clone(&self) -> Result<Op<P, F>, AllocError> {
+        Ok(*self)
+    }
 }
 
 /// What each of the tables is known as, in order.

@@ -51,20 +51,30 @@ kept_first a begun = record {
 pub block_first : (pass : PassView) (port : PlacedPort) → AreBegun pass port → run_at pass port ≡ first_block pass port.window
 block_first pass port begun = ap (λ (p : PlacedPort). record { pass = pass; window = port.window; first_row = p.first_row; until = p.until }) begun.port_is
 
--- after a step its block is the same
-pub block_stays : (old run : RunView) (new : PassView) (port : PlacedPort) → old ≡ run → port ≡ placed (with_pass old new) → run_at new port ≡ with_pass run new
-block_stays old run new port same is = ap (run_at new) is ∙ ap (λ r. with_pass r new) same
+-- a step of the pass had this answer, and the port is at the place of the pass afterwards
+pub record HasStepped (a : Inside) (answer : Step) (new : PassView) (port : PlacedPort) : Type 0 where
+  pub step : IsStepOf a.port.until a.pass answer new
+  pub is : port ≡ placed (with_pass (view_of a) new)
 
--- and the port is at the place of the pass
-pub kept_after : (a : Inside) (new : PassView) (port : PlacedPort) (answer : Step) → IsKept a → IsStepOf a.port.until a.pass answer new → port ≡ placed (with_pass (view_of a) new)
-    → IsKept (record a { pass = new; port = port })
-kept_after a new port answer kept step is =
-    let next = step_next a.port.until a.pass new answer step in
-    subst (λ p. IsKept (record a { pass = new; port = p })) (sym is) (record {
-      port = refl;
-      until = subst (λ i. a.port.until ≡ block_end i new.feed a.port.first_row a.port.window) (sym next.image)
-          (subst (λ s. a.port.until ≡ block_end a.pass.image s a.port.first_row a.port.window) (sym next.stimulus) kept.until);
-    })
+module _ {a : Inside} {answer : Step} {new : PassView} {port : PlacedPort} (stepped : HasStepped a answer new port) where
+  -- it stays there
+  pub kept_after : IsKept a → IsKept (record a { pass = new; port = port })
+  kept_after kept =
+      let next = step_next a.port.until a.pass new answer stepped.step in
+      subst (λ p. IsKept (record a { pass = new; port = p })) (sym stepped.is) (record {
+        port = refl;
+        until = subst (λ i. a.port.until ≡ block_end i new.feed a.port.first_row a.port.window) (sym next.image)
+            (subst (λ s. a.port.until ≡ block_end a.pass.image s a.port.first_row a.port.window) (sym next.stimulus) kept.until);
+      })
+
+  module _ (run : RunView) (same : view_of a ≡ run) where
+    -- seen as a run
+    pub step_seen : IsStepOf run.until run.pass answer new
+    step_seen = subst (λ (x : RunView). IsStepOf x.until x.pass answer new) same stepped.step
+
+    -- its block is the same
+    pub block_stays : run_at new port ≡ with_pass run new
+    block_stays = ap (run_at new) stepped.is ∙ ap (λ r. with_pass r new) same
 
 -- the next block is one of its image and stimulus too
 pub kept_on : (a : Inside) (port : PlacedPort) → IsKept a → port ≡ in_next_block a.port → IsKept (record a { port = port })
@@ -86,6 +96,14 @@ upcoming run port known banks next port_is until known_is banks_are fit is =
     let seat = member_at pass.image.ports pass.port fit.inside in
     let here : IsNextOf (placed run) pass.place.known pass.banks next = subst (λ b. IsNextOf (placed run) pass.place.known b next) banks_are (subst (λ k. IsNextOf (placed run) k banks next) known_is (subst (λ p. IsNextOf p known banks next) port_is is)) in
     record { fit = fit; few = few_turns run until; seat = seat.0; is = seat.1; next = here.each seat.0 seat.1 }
+
+-- the next event, from its fields and seen as a run
+module _ (a : Inside) (run : RunView) (same : view_of a ≡ run) where
+  pub coming : IsKept a → (known : List ℕ) (banks : ℕ) (next : Action) → known ≡ a.pass.place.known → banks ≡ a.pass.banks → IsFit a.pass → IsNextOf a.port known banks next → IsUpcoming run.until run.pass next
+  coming kept known banks next known_is banks_are fit is = subst (λ (x : RunView). IsUpcoming x.until x.pass next) same (upcoming (view_of a) a.port known banks next kept.port kept.until known_is banks_are fit is)
+
+  pub inside : (action : Action) → IsUpcoming run.until run.pass action → IsUpcoming a.port.until a.pass action
+  inside action = subst (λ (x : RunView). IsUpcoming x.until x.pass action) (sym same)
 
 -- ---- Ask
 

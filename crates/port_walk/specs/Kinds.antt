@@ -1,14 +1,21 @@
--- A port of any kind.
+-- A plain port of any kind.
 use Rattle.std.specs.Prelude.{ℕ, ◌+◌, ◌==◌, if◌then◌else◌, length, Option, None, Some}
 use Rattle.image_defs.specs.declared.image.Image.{Image}
+use Rattle.image_defs.specs.Ports.{PortView}
 use Rattle.port_walk.specs.declared.kind.Kind.{Kind}
 use Rattle.port_walk.specs.declared.kind.Kind.TheVariants.{Logic, Array, Host}
 
--- what the port of this kind has
-abbrev pub by_kind : {L A H V : Type 0} → (L → V) → (A → V) → (H → V) → Kind L A H → V
-by_kind logic array host (Logic port) = logic port
-by_kind logic array host (Array port) = array port
-by_kind logic array host (Host port) = host port
+-- how far it has come
+abbrev pub view_in : Kind → PortView
+view_in (Logic port) = port
+view_in (Array port) = port
+view_in (Host host) = host.port
+
+-- the host's window, and how many rows it has given up
+abbrev pub rows_in : Kind → Option (ℕ × ℕ)
+rows_in (Logic port) = None
+rows_in (Array port) = None
+rows_in (Host host) = Some (host.window, host.first_row)
 
 -- the rows of port number p: the last port of an image is the host, and no other has any
 abbrev pub rows_of : Image → ℕ → ℕ × ℕ → Option (ℕ × ℕ)

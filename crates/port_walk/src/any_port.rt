@@ -6,7 +6,7 @@ ghost use Rattle.image_defs.specs.Places.{host_of};
 ghost use Rattle.image_defs.specs.WellFormed.{IsWellFormed};
 ghost use Rattle.port_walk.specs.Placed.{at_start, in_next_block, in_next_turn, IsNextOf, CanGoOn, CanPut, CanTake, CanTakeValue, IsEnding, HasPut, HasTaken, IsNextSend, IsNextReceipt, IsHostIn};
 
-use crate::kind::{AnyKind, Kind, first_kind};
+use crate::kind::{Kind, first_kind};
 use crate::lists::lists_of;
 use crate::upcoming::Upcoming;
 use crate::walk::Walk;
@@ -25,7 +25,7 @@ use std::marker::Model;
 /// sees whose image and stimulus it runs, its block, and its place.
 #[derive(Drop)]
 pub struct AnyPort<'a> {
-    walk: Walk<'a, V4, AnyKind<'a>>,
+    walk: Walk<'a, V4, Kind<'a>>,
     units: u32,
     cycles: u32,
     window: u32,
@@ -164,14 +164,14 @@ impl<'a> AnyPort<'a> {
     pub fn turn(&self) -> u64
         ensures { result ≡ self.now.turn }
     {
-        self.walk.turn()
+        self.walk.turn
     }
 
     /// The last turn that it executes in its block.
     pub fn until(&self) -> u64
         ensures { result ≡ self.now.until }
     {
-        self.walk.until()
+        self.walk.until
     }
 
     /// The port as the host, which has the rows of its block that are done. `None` exactly where it is
@@ -181,7 +181,7 @@ impl<'a> AnyPort<'a> {
             (self.now.port ≢ host_of self.now.image)
             (λ host. IsHostIn self.now host.now) }
     {
-        match self.walk.port() {
+        match &self.walk.port {
             Kind::Host(host) => Some(host),
             Kind::Logic(_) => None,
             Kind::Array(_) => None,

@@ -1,39 +1,35 @@
-//! The kinds of port, behind one contract.
+//! The kinds of plain port, behind one contract.
 
 ghost use Rattle.std.specs.Prelude.{◌≡◌, ◌<◌, ◌≤◌, length, IfOk};
 ghost use Rattle.net_defs.specs.Valid.{IsValidStimulus};
 ghost use Rattle.image_defs.specs.WellFormed.{IsWellFormed};
 ghost use Rattle.port_host.specs.Rows.{rows_done};
 ghost use Rattle.port_walk.specs.code.Enters.{given_up};
-ghost use Rattle.port_walk.specs.code.Kinds.{view_in, rows_in, IsFirst};
+ghost use Rattle.port_walk.specs.Kinds.{view_in, rows_in};
+ghost use Rattle.port_walk.specs.code.Kinds.{IsFirst};
 
 use image_defs::{Image, Work};
 use logic_four::V4;
 use net_defs::Stimulus;
 use port_array::ArrayPort;
-use port_bank::{Port, Word};
+use port_bank::Port;
 use port_host::HostPort;
 use port_logic::LogicPort;
 use seen_list::Memory;
 use std::alloc::Global;
 
-/// A port in its run, by its kind.
+/// A plain port in its run, by its kind.
 #[derive(Drop)]
-pub enum Kind<L, A, H> {
-    Logic(L),
-    Array(A),
-    Host(H),
+pub(crate) enum Kind<'a> {
+    Logic(LogicPort<'a, V4>),
+    Array(ArrayPort<'a, V4>),
+    Host(HostPort<'a>),
 }
 
-/// A plain port of any kind.
-pub(crate) type AnyKind<'a> = Kind<LogicPort<'a, V4>, ArrayPort<'a, V4>, HostPort<'a>>;
+impl<'a> Port<V4> for Kind<'a> {
+    ghost seen = { view_in };
 
-impl<W: Word, L: Port<W>, A: Port<W>, H: Port<W>> Port<W> for Kind<L, A, H> {
-    ghost use Rattle.port_walk.specs.Kinds.{by_kind};
-
-    ghost seen = { by_kind L.seen A.seen H.seen };
-
-    ghost rows = { by_kind L.rows A.rows H.rows };
+    ghost rows = { rows_in };
 
     fn begin_turn(&mut self) {
         match self {
@@ -43,7 +39,7 @@ impl<W: Word, L: Port<W>, A: Port<W>, H: Port<W>> Port<W> for Kind<L, A, H> {
         }
     }
 
-    fn execute(&mut self, slot: u32) -> W {
+    fn execute(&mut self, slot: u32) -> V4 {
         match self {
             Kind::Logic(port) => port.execute(slot),
             Kind::Array(port) => port.execute(slot),
@@ -52,7 +48,7 @@ impl<W: Word, L: Port<W>, A: Port<W>, H: Port<W>> Port<W> for Kind<L, A, H> {
     }
 
     #[inline]
-    fn receive(&mut self, slot: u32, v: W) {
+    fn receive(&mut self, slot: u32, v: V4) {
         match self {
             Kind::Logic(port) => port.receive(slot, v),
             Kind::Array(port) => port.receive(slot, v),
@@ -69,7 +65,7 @@ impl<W: Word, L: Port<W>, A: Port<W>, H: Port<W>> Port<W> for Kind<L, A, H> {
     }
 
     /// By the loop of the port's kind.
-    fn run(&mut self, slots: &[u32], from: u32, to: u32, last: W) -> W {
+    fn run(&mut self, slots: &[u32], from: u32, to: u32, last: V4) -> V4 {
         match self {
             Kind::Logic(port) => port.run(slots, from, to, last),
             Kind::Array(port) => port.run(slots, from, to, last),
@@ -85,7 +81,7 @@ pub(crate) fn first_kind<'a>(
     stim: &'a Stimulus,
     port: u32,
     window: u32,
-) -> Result<AnyKind<'a>, Memory>
+) -> Result<Kind<'a>, Memory>
     requires image { IsWellFormed image.now }
     requires stimulus { IsValidStimulus stim.now }
     requires columns { stim.now.columns ≡ image.now.columns }
@@ -101,7 +97,7 @@ pub(crate) fn first_kind<'a>(
 }
 
 /// Gives up the rows that are done, if it is the host.
-pub(crate) fn give_up(kind: &mut AnyKind<'_>)
+pub(crate) fn give_up(kind: &mut Kind<'_>)
     ensures view { view_in kind.new ≡ view_in kind.old }
     ensures rows { rows_in kind.new ≡ given_up (rows_in kind.old) (rows_done (view_in kind.old)) }
 {

@@ -12,6 +12,5 @@ mod walk;
 
 pub use any_port::AnyPort;
 pub use event_defs::Action;
-pub use kind::Kind;
 pub use upcoming::Upcoming;
 pub use walk::Walk;

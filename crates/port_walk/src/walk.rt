@@ -17,7 +17,7 @@ ghost use Rattle.port_walk.specs.Stops.{AreStops};
 ghost use Rattle.port_walk.specs.Walks.{started, in_next_turn, HasPut, HasTaken, HasRowRoom, IsWithin, IsNextValue, CanTakeValue};
 ghost use Rattle.port_walk.specs.code.Enters.{rests_no_more, CanEnter, HasEntered};
 
-use crate::kind::{AnyKind, give_up};
+use crate::kind::{Kind, give_up};
 use crate::readers::{Readers, first_lagging, readers_at, turns_wanted};
 use crate::stops::{Stop, StopKind};
 use crate::upcoming::Upcoming;
@@ -32,7 +32,7 @@ use std::marker::Model;
 /// rests. A contract sees whose image and stimulus it runs, where it stands, and the rows of the host.
 #[derive(Drop)]
 pub struct Walk<'a, W: Word, P: Port<W>> {
-    port: P,
+    pub(crate) port: P,
     seat: &'a PortImage,
     slots: List<u32>,
     readers: Readers,
@@ -41,8 +41,8 @@ pub struct Walk<'a, W: Word, P: Port<W>> {
     sent: usize,
     took: usize,
     value: W,
-    turn: u64,
-    until: u64,
+    pub(crate) turn: u64,
+    pub(crate) until: u64,
 }
 
 impl<'a, W: Word, P: Port<W>> Model for Walk<'a, W, P> {
@@ -270,7 +270,7 @@ impl<'a, W: Word, P: Port<W>> Walk<'a, W, P> {
     }
 }
 
-impl<'a> Walk<'a, V4, AnyKind<'a>> {
+impl<'a> Walk<'a, V4, Kind<'a>> {
     /// A plain port that rests goes on up to the turn `until`: the next turn begins. The host gives up the rows that are
     /// done.
     #[inline]

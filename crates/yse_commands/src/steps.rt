@@ -20,7 +20,7 @@ use crate::output::{Ending, Output, Trace, Written};
 use cmd_words::RunWords;
 use crew_run::Gate;
 use edge_io::Sink;
-use machine_run::run_blocks;
+use machine_run::{Division, run_blocks};
 use named_files::{OnMachine, Ready, Runnable};
 use net_defs::Stimulus;
 use order_run::{rows_by_order, rows_by_rounds};
@@ -80,17 +80,11 @@ pub fn by_workers<R: Threads + Wait + Sync, O: Sink, G: Gate + Send>(
     ensures in_place { AreInPlace gates.old gates.new }
 {
     let Runnable { net, image, .. } = run;
-    let wrote = run_blocks(
-        rt,
-        alloc,
-        &net,
-        &image,
-        &stimulus,
-        words.banks,
-        words.workers,
-        gates,
-        out,
-    );
+    let division = Division {
+        banks: words.banks,
+        workers: words.workers,
+    };
+    let wrote = run_blocks(rt, alloc, &net, &image, &stimulus, division, gates, out);
     match wrote {
         Ok(wrote) => Ok(Written {
             net,

@@ -26,3 +26,7 @@ pub record HasEnded {S : Type 0} (m : stepper.Ghosts S) (seat seat' : S) : Type 
 -- the same port, in its next block
 pub record HasGoneOn (seat seat' : Seated) : Type 0 where
   pub run : seat'.run ≡ next_block seat.run
+
+-- each of the members
+abbrev pub HaveGoneOn : List Seated → List Seated → Type 0
+HaveGoneOn = Each HasGoneOn

@@ -5,19 +5,21 @@ use Rattle.stim_text.specs.Lanes.{longest}
 use Rattle.image_defs.specs.declared.image.Image.{Image}
 use Rattle.image_defs.specs.Ports.{at_first}
 use Rattle.port_bank.specs.Packed.{PackPortView}
-use Rattle.port_walk.specs.declared.kind.Kind.{Kind}
-use Rattle.port_walk.specs.Kinds.{by_kind, rows_of}
-
-abbrev pub PackKind : Type 0
-PackKind = Kind PackPortView PackPortView PackPortView
+use Rattle.port_walk.specs.Kinds.{rows_of}
+use Rattle.pack_walk.specs.declared.kind.PackKind.{PackKind}
+use Rattle.pack_walk.specs.declared.kind.PackKind.TheVariants.{Logic, Array, Host}
 
 -- how far it has come
 abbrev pub view_in : PackKind → PackPortView
-view_in kind = by_kind (λ port. port) (λ port. port) (λ host. host) kind
+view_in (Logic port) = port
+view_in (Array port) = port
+view_in (Host host) = host
 
 -- the host keeps the rows of the longest lane, and gives up none
 abbrev pub rows_in : PackKind → Option (ℕ × ℕ)
-rows_in kind = by_kind (λ port. None) (λ port. None) (λ host. Some (longest host.stimulus, 0)) kind
+rows_in (Logic port) = None
+rows_in (Array port) = None
+rows_in (Host host) = Some (longest host.stimulus, 0)
 
 -- it is the port of this number before its first turn
 pub record IsFirst (image : Image) (lanes : Lanes) (p : ℕ) (kind : PackKind) : Type 0 where

@@ -1,7 +1,6 @@
 use Rattle.std.proofs.Common.{arith, sym, ◌∙◌}
 use Rattle.std.proofs.lemmas.Option.{slice_get-get_or}
-use Rattle.crew_run.specs.code.Phases.{Each}
-use Rattle.machine_run.specs.code.Moves.{HasGoneOn}
+use Rattle.machine_run.specs.code.Moves.{HaveGoneOn}
 use Rattle.machine_run.proofs.MoveLemmas.{first_all, first_more}
 use Rattle.machine_run.proofs.steps.go_on_all.Goals as goal
 
@@ -13,7 +12,7 @@ go_on_worker-requires g c = λ k seat there.
 pub workers-preserved : goal.workers-preserved
 workers-preserved g c =
     let at = slice_get-get_or c.workers.workers c.workers.w c.index-workers-w.result (omega (arith, c.workers-test.true, c.workers.invariant.count)) in
-    first_more (λ w w'. Each HasGoneOn w.members w'.members) c.args.workers.now c.workers.w c.workers.workers _ c.go_on_worker.new.worker c.workers.invariant at c.go_on_worker.ensures
+    first_more (λ w w'. HaveGoneOn w.members w'.members) c.args.workers.now c.workers.w c.workers.workers _ c.go_on_worker.new.worker c.workers.invariant at c.go_on_worker.ensures
 
 pub returns : goal.returns
-returns g c = first_all (λ w w'. Each HasGoneOn w.members w'.members) c.args.workers.now c.workers.w c.workers.workers c.workers.invariant (omega (arith, c.workers-test.false))
+returns g c = first_all (λ w w'. HaveGoneOn w.members w'.members) c.args.workers.now c.workers.w c.workers.workers c.workers.invariant (omega (arith, c.workers-test.false))

@@ -1,7 +1,9 @@
-use Rattle.std.proofs.Common.{◌≡◌, ◌∙◌, ap, subst}
+use Rattle.std.proofs.Common.{◌≡◌, ◌∙◌, ◌<◌, length, ap, subst, sym}
+use Rattle.std.proofs.lemmas.Option.{slice_get_within}
 use Rattle.image_defs.specs.Places.{IsPort}
 use Rattle.image_defs.specs.WellFormed.{IsLogic}
 use Rattle.port_bank.proofs.lemmas.TurnLemmas.{seat_found}
+use Rattle.port_logic.specs.code.Ops.{AreForms}
 use Rattle.port_logic.proofs.TaskLemmas.{tasks_tabled, tasks_within, ready_first}
 use Rattle.port_logic.proofs.port.LogicPort.new.Goals as goal
 
@@ -38,3 +40,9 @@ unreachable-requires-in-Host g c =
     let seat = c.index-as_slice-port.result in
     let same : c.requires.logic.port ≡ seat = seat_found c.args.image.now c.args.port c.requires.logic.port seat _ c.requires.logic.is c.as_slice.ensures c.index-as_slice-port.is in
     subst IsLogic (ap (λ q. q.work) same ∙ c.in-Host.is) c.requires.logic.kind
+
+pub bounds-as_slice-port : goal.bounds-as_slice-port
+bounds-as_slice-port g c = subst (λ ports. c.args.port < length ports) (sym c.as_slice.ensures) (slice_get_within c.args.image.now.ports c.args.port c.requires.logic.port c.requires.logic.is)
+
+pub ops_of-requires-clause-forms : goal.ops_of-requires-clause-forms
+ops_of-requires-clause-forms g c = subst (AreForms g.W.Word.is_form c.as_slice-tables.result.now) (sym c.as_slice-in-Logic.ensures) c.in_ok-forms-in-Logic.ensures

@@ -3,7 +3,7 @@ use Rattle.net_defs.specs.Time.{turn_count}
 use Rattle.image_defs.specs.Steps.{timing_of}
 use Rattle.port_walk.specs.Walks.{Walked}
 use Rattle.port_walk.proofs.MoveLemmas.{gone_enters, gone_kept}
-use Rattle.port_walk.proofs.walk.Walk+V4+AnyKind.go_on.Goals as goal
+use Rattle.port_walk.proofs.walk.Walk+V4+Kind.go_on.Goals as goal
 
 pub enter-self-inside-requires : goal.enter-self-inside-requires
 enter-self-inside-requires c =
