@@ -314,6 +314,20 @@ struct Case {
     line: &'static str,
 }
 
+/// A row that names no call: over the files of a netlist and of a stimulus, each empty, with status 0 and no output.
+const PLAIN: Case = Case {
+    calls: "",
+    words: FILES,
+    netlist: "",
+    stimulus: "",
+    machine: "",
+    more: "",
+    failing: (0, 0),
+    status: 0,
+    output: "",
+    line: "",
+};
+
 fn edges_of(case: &Case) -> Edges {
     Edges {
         failing_read: case.failing.0,

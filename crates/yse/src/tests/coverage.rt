@@ -1,121 +1,74 @@
 //! Coverage. The values were worked out by hand, or by a second program from the cells that `refer` prints with every
 //! signal printed.
 
-use super::{BUS, C17, Case, FILES, LATCH, RAM, S27, all_end};
+use super::{BUS, C17, Case, LATCH, PLAIN, RAM, S27, all_end};
 
 const NOT: &str = "INPUT(a)\nOUTPUT(z)\nz = NOT(a)\n";
 
 const CASES: &[Case] = &[
     Case {
         calls: "cover",
-        words: FILES,
         netlist: NOT,
         stimulus: "0\n1\n",
-        machine: "",
-        more: "",
-        failing: (0, 0),
-        status: 0,
         output: "a 01r-\nz 01-f\ncovered 0 of 2\n",
-        line: "",
+        ..PLAIN
     },
     Case {
         calls: "cover",
-        words: FILES,
         netlist: NOT,
         stimulus: "0\n1\n0\n",
-        machine: "",
-        more: "",
-        failing: (0, 0),
-        status: 0,
         output: "a 01rf\nz 01rf\ncovered 2 of 2\n",
-        line: "",
+        ..PLAIN
     },
     // No change is seen through X.
     Case {
         calls: "cover",
-        words: FILES,
         netlist: NOT,
         stimulus: "0\nx\n1 * 3\n",
-        machine: "",
-        more: "",
-        failing: (0, 0),
-        status: 0,
         output: "a 01--\nz 01--\ncovered 0 of 2\n",
-        line: "",
+        ..PLAIN
     },
     Case {
         calls: "cover",
-        words: FILES,
         netlist: NOT,
         stimulus: "1 * 1000000\n",
-        machine: "",
-        more: "",
-        failing: (0, 0),
-        status: 0,
         output: "a -1--\nz 0---\ncovered 0 of 2\n",
-        line: "",
+        ..PLAIN
     },
     // No cycle, and no signal.
     Case {
         calls: "cover",
-        words: FILES,
         netlist: C17,
-        stimulus: "",
-        machine: "",
-        more: "",
-        failing: (0, 0),
-        status: 0,
         output: "1 ----\n2 ----\n3 ----\n6 ----\n7 ----\n10 ----\n11 ----\n16 ----\n19 ----\n22 ----\n23 ----\ncovered 0 of 11\n",
-        line: "",
+        ..PLAIN
     },
     Case {
         calls: "cover",
-        words: FILES,
-        netlist: "",
-        stimulus: "",
-        machine: "",
-        more: "",
-        failing: (0, 0),
-        status: 0,
         output: "covered 0 of 0\n",
-        line: "",
+        ..PLAIN
     },
     Case {
         calls: "cover",
         words: "net.bench net.stim --init 0",
         netlist: S27,
         stimulus: "0000\n0001\n0000\n1000\n0001\n",
-        machine: "",
-        more: "",
-        failing: (0, 0),
-        status: 0,
         output: "G0 01rf\nG1 0---\nG2 0---\nG3 01rf\nG5 01r-\nG6 01rf\nG7 0---\nG14 01rf\nG17 01rf\nG8 01rf\nG15 -1--\nG16 01rf\nG9 01rf\nG10 01rf\nG11 01rf\nG12 -1--\nG13 0---\ncovered 10 of 17\n",
-        line: "",
+        ..PLAIN
     },
     Case {
         calls: "cover",
-        words: FILES,
         netlist: RAM,
         stimulus: "1101\n0100\n0100\n1100\n0100\n0100\n",
-        machine: "",
-        more: "",
-        failing: (0, 0),
-        status: 0,
         output: "we 01rf\na0 -1--\na1 0---\nd 01-f\nq 01-f\ncovered 1 of 5\n",
-        line: "",
+        ..PLAIN
     },
     // A bus of two drivers: X and Z are no marks.
     Case {
         calls: "cover",
-        words: FILES,
         netlist: BUS,
         stimulus: "1000\n1001\n1010\n1110\n1011\n0000\nx000\n1100\n",
-        machine: "",
-        more: "",
-        failing: (0, 0),
-        status: 0,
         output: "e 01-f\na 01rf\nf 01rf\nb 01rf\nt 01rf\nu 01r-\ny 01--\ncovered 4 of 7\n",
-        line: "",
+        ..PLAIN
     },
     // Within a cycle nothing is looked at.
     Case {
@@ -123,62 +76,45 @@ const CASES: &[Case] = &[
         words: "net.bench net.stim --mode unit --units 4",
         netlist: LATCH,
         stimulus: "01\n11\n10\n",
-        machine: "",
-        more: "",
-        failing: (0, 0),
-        status: 0,
         output: "s 01r-\nr 01-f\nq 01-f\np 01r-\ncovered 0 of 4\n",
-        line: "",
+        ..PLAIN
     },
     Case {
         calls: "cover",
         words: "net.bench net.stim --mode mixed --last net.more --units 2",
         netlist: LATCH,
         stimulus: "01\n11\n10\n",
-        machine: "",
         more: "q\n",
-        failing: (0, 0),
-        status: 0,
         output: "s 01r-\nr 01-f\nq 01-f\np 01r-\ncovered 0 of 4\n",
-        line: "",
+        ..PLAIN
     },
     // The loop comes before the stimulus.
     Case {
         calls: "cover",
-        words: FILES,
         netlist: LATCH,
         stimulus: "1\n",
-        machine: "",
-        more: "",
-        failing: (0, 0),
         status: 7,
-        output: "",
         line: "loop: q p\n",
+        ..PLAIN
     },
     Case {
         calls: "cover",
-        words: FILES,
         netlist: C17,
         stimulus: "1\n",
-        machine: "",
-        more: "",
-        failing: (0, 0),
         status: 9,
-        output: "",
         line: "stimulus: line 1: 1 values, 5 wanted\n",
+        ..PLAIN
     },
     // A line a piece.
     Case {
         calls: "cover",
-        words: FILES,
         netlist: NOT,
         stimulus: "0\n1\n",
-        machine: "",
-        more: "",
         failing: (0, 2),
         status: 4,
         output: "a 01r-\n",
         line: "write fault\n",
+        ..PLAIN
     },
 ];
 

@@ -1,7 +1,7 @@
 //! Whole calls at edges that fail, or that give or take little at a time, and over texts that are cut off or as
 //! large as a text may be.
 
-use super::{C17, Case, EASY, Edges, FILES, S27, Texts, all_end, end_of, ends, texts_of};
+use super::{C17, Case, EASY, Edges, FILES, PLAIN, S27, Texts, all_end, end_of, ends, texts_of};
 use seen_list::{Memory, Text};
 use std::alloc::Global;
 use std::marker::Sync;
@@ -21,84 +21,69 @@ const CASES: &[Case] = &[
         words: "net.bench net.stim --init 0",
         netlist: S27,
         stimulus: "0000 * 3\n",
-        machine: "",
-        more: "",
         failing: (1, 0),
         status: 3,
-        output: "",
         line: "read fault: net.bench\n",
+        ..PLAIN
     },
     Case {
         calls: COMMANDS,
         words: "net.bench net.stim --init 0",
         netlist: S27,
         stimulus: "0000 * 3\n",
-        machine: "",
-        more: "",
         failing: (2, 0),
         status: 3,
-        output: "",
         line: "read fault: net.bench\n",
+        ..PLAIN
     },
     Case {
         calls: COMMANDS,
         words: "net.bench net.stim --init 0",
         netlist: S27,
         stimulus: "0000 * 3\n",
-        machine: "",
-        more: "",
         failing: (3, 0),
         status: 3,
-        output: "",
         line: "read fault: net.bench\n",
+        ..PLAIN
     },
     Case {
         calls: COMMANDS,
         words: "net.bench net.stim --init 0",
         netlist: S27,
         stimulus: "0000 * 3\n",
-        machine: "",
-        more: "",
         failing: (4, 0),
         status: 3,
-        output: "",
         line: "read fault: net.stim\n",
+        ..PLAIN
     },
     Case {
         calls: COMMANDS,
         words: "net.bench net.stim --init 0",
         netlist: S27,
         stimulus: "0000 * 3\n",
-        machine: "",
-        more: "",
         failing: (5, 0),
         status: 3,
-        output: "",
         line: "read fault: net.stim\n",
+        ..PLAIN
     },
     Case {
         calls: COMMANDS,
         words: "net.bench net.stim --init 0",
         netlist: S27,
         stimulus: "0000 * 3\n",
-        machine: "",
-        more: "",
         failing: (6, 0),
         status: 3,
-        output: "",
         line: "read fault: net.stim\n",
+        ..PLAIN
     },
     Case {
         calls: COMMANDS,
         words: "net.bench net.stim --init 0",
         netlist: S27,
         stimulus: "0000 * 3\n",
-        machine: "",
-        more: "",
         failing: (7, 0),
-        status: 0,
         output: S27_TRACE,
-        line: "",
+        ..PLAIN
     },
     // Whole lines are written before a write that fails.
     Case {
@@ -106,60 +91,52 @@ const CASES: &[Case] = &[
         words: "net.bench net.stim --init 0",
         netlist: S27,
         stimulus: "0000 * 3\n",
-        machine: "",
-        more: "",
         failing: (0, 1),
         status: 4,
-        output: "",
         line: "write fault\n",
+        ..PLAIN
     },
     Case {
         calls: COMMANDS,
         words: "net.bench net.stim --init 0",
         netlist: S27,
         stimulus: "0000 * 3\n",
-        machine: "",
-        more: "",
         failing: (0, 2),
         status: 4,
         output: "cycle G17\n",
         line: "write fault\n",
+        ..PLAIN
     },
     Case {
         calls: COMMANDS,
         words: "net.bench net.stim --init 0",
         netlist: S27,
         stimulus: "0000 * 3\n",
-        machine: "",
-        more: "",
         failing: (0, 3),
         status: 4,
         output: "cycle G17\n1 1\n",
         line: "write fault\n",
+        ..PLAIN
     },
     Case {
         calls: COMMANDS,
         words: "net.bench net.stim --init 0",
         netlist: S27,
         stimulus: "0000 * 3\n",
-        machine: "",
-        more: "",
         failing: (0, 4),
         status: 4,
         output: "cycle G17\n1 1\n2 1\n",
         line: "write fault\n",
+        ..PLAIN
     },
     Case {
         calls: COMMANDS,
         words: "net.bench net.stim --init 0",
         netlist: S27,
         stimulus: "0000 * 3\n",
-        machine: "",
-        more: "",
         failing: (0, 5),
-        status: 0,
         output: S27_TRACE,
-        line: "",
+        ..PLAIN
     },
 ];
 

@@ -1,7 +1,7 @@
 //! Images that `compile` writes, and what `exec` makes of them and of others.
 
 use super::{
-    C17, Case, EASY, Ended, LATCH, RAM, S27, Texts, WIDE, all_end, all_print, end_of, four,
+    C17, Case, EASY, Ended, LATCH, PLAIN, RAM, S27, Texts, WIDE, all_end, all_print, end_of, four,
 };
 use seen_list::{Memory, Text};
 use std::alloc::Global;
@@ -178,50 +178,38 @@ const CASES: &[Case] = &[
         calls: "compile",
         words: "net.bench --machine net.machine",
         netlist: NETLIST,
-        stimulus: "",
         machine: "logic 1\narray 0\n",
-        more: "",
-        failing: (0, 0),
-        status: 0,
         output: IMAGE,
-        line: "",
+        ..PLAIN
     },
     // It is one piece: nothing is written where the first write fails, and there is no second one.
     Case {
         calls: "compile",
         words: "net.bench --machine net.machine",
         netlist: NETLIST,
-        stimulus: "",
         machine: "logic 1\narray 0\n",
-        more: "",
         failing: (0, 1),
         status: 4,
-        output: "",
         line: "write fault\n",
+        ..PLAIN
     },
     Case {
         calls: "compile",
         words: "net.bench --machine net.machine",
         netlist: NETLIST,
-        stimulus: "",
         machine: "logic 1\narray 0\n",
-        more: "",
         failing: (0, 2),
-        status: 0,
         output: IMAGE,
-        line: "",
+        ..PLAIN
     },
     Case {
         calls: "exec",
         words: "net.bench net.more net.stim",
         netlist: NETLIST,
         stimulus: ROWS,
-        machine: "",
         more: IMAGE,
-        failing: (0, 0),
-        status: 0,
         output: TRACE,
-        line: "",
+        ..PLAIN
     },
     // The input of the last turn.
     Case {
@@ -229,36 +217,30 @@ const CASES: &[Case] = &[
         words: "net.bench net.more net.stim",
         netlist: NETLIST,
         stimulus: ROWS,
-        machine: "",
         more: LAST_TURN,
-        failing: (0, 0),
         status: 15,
-        output: "",
         line: "image: port 0 slot 1 does not match\n",
+        ..PLAIN
     },
     Case {
         calls: "exec",
         words: "net.bench net.more net.stim",
         netlist: NETLIST,
         stimulus: ROWS,
-        machine: "",
         more: NO_TAKE,
-        failing: (0, 0),
         status: 15,
-        output: "",
         line: "image: not well formed\n",
+        ..PLAIN
     },
     Case {
         calls: "exec",
         words: "net.bench net.more net.stim --init 0",
         netlist: NETLIST,
         stimulus: ROWS,
-        machine: "",
         more: IMAGE,
-        failing: (0, 0),
         status: 15,
-        output: "",
         line: "image: timing differs\n",
+        ..PLAIN
     },
     // Another constant where the gate has no operand.
     Case {
@@ -266,36 +248,30 @@ const CASES: &[Case] = &[
         words: "net.bench net.more net.stim",
         netlist: NETLIST,
         stimulus: ROWS,
-        machine: "",
         more: CONST_ONE,
-        failing: (0, 0),
         status: 15,
-        output: "",
         line: "image: port 0 slot 1 does not match\n",
+        ..PLAIN
     },
     Case {
         calls: "exec",
         words: "net.bench net.more net.stim",
         netlist: NETLIST,
         stimulus: ROWS,
-        machine: "",
         more: CONST_UNDEF,
-        failing: (0, 0),
         status: 15,
-        output: "",
         line: "image: port 0 slot 1 does not match\n",
+        ..PLAIN
     },
     Case {
         calls: "exec",
         words: "net.bench net.more net.stim",
         netlist: NETLIST,
         stimulus: ROWS,
-        machine: "",
         more: CONST_HIGH,
-        failing: (0, 0),
         status: 15,
-        output: "",
         line: "image: port 0 slot 1 does not match\n",
+        ..PLAIN
     },
     // The input is printed in place of the gate.
     Case {
@@ -303,48 +279,40 @@ const CASES: &[Case] = &[
         words: "net.bench net.more net.stim",
         netlist: NETLIST,
         stimulus: ROWS,
-        machine: "",
         more: OTHER_PRINT,
-        failing: (0, 0),
         status: 15,
-        output: "",
         line: "image: column 0 does not match\n",
+        ..PLAIN
     },
     Case {
         calls: "exec",
         words: "net.bench net.more net.stim",
         netlist: NETLIST,
         stimulus: ROWS,
-        machine: "",
         more: NO_END,
-        failing: (0, 0),
         status: 14,
-        output: "",
         line: "image: line 13: syntax\n",
+        ..PLAIN
     },
     Case {
         calls: "exec",
         words: "net.bench net.more net.stim",
         netlist: NETLIST,
         stimulus: ROWS,
-        machine: "",
         more: ZERO_FIRST,
-        failing: (0, 0),
         status: 14,
-        output: "",
         line: "image: line 5: syntax\n",
+        ..PLAIN
     },
     Case {
         calls: "exec",
         words: "net.bench net.more net.stim",
         netlist: NETLIST,
         stimulus: ROWS,
-        machine: "",
         more: TOO_LARGE,
-        failing: (0, 0),
         status: 14,
-        output: "",
         line: "image: line 5: out of range\n",
+        ..PLAIN
     },
     // The image is checked before the stimulus is read, and a file that is missing is told.
     Case {
@@ -352,36 +320,30 @@ const CASES: &[Case] = &[
         words: "net.bench net.more other",
         netlist: NETLIST,
         stimulus: ROWS,
-        machine: "",
         more: NO_TAKE,
-        failing: (0, 0),
         status: 15,
-        output: "",
         line: "image: not well formed\n",
+        ..PLAIN
     },
     Case {
         calls: "exec",
         words: "net.bench net.more other",
         netlist: NETLIST,
         stimulus: ROWS,
-        machine: "",
         more: IMAGE,
-        failing: (0, 0),
         status: 3,
-        output: "",
         line: "read fault: other\n",
+        ..PLAIN
     },
     Case {
         calls: "exec",
         words: "net.bench other net.stim",
         netlist: NETLIST,
         stimulus: ROWS,
-        machine: "",
         more: IMAGE,
-        failing: (0, 0),
         status: 3,
-        output: "",
         line: "read fault: other\n",
+        ..PLAIN
     },
 ];
 

@@ -1,7 +1,7 @@
 //! Runs on the machine of a text: machines that hold the design, designs that are overfull, and
 //! machine texts that are refused. And plans on such a machine.
 
-use super::{C17, Case, LATCH, RAM, all_end};
+use super::{C17, Case, LATCH, PLAIN, RAM, all_end};
 
 const PLANNED: &str = "net.bench --machine net.machine";
 
@@ -25,11 +25,8 @@ const CASES: &[Case] = &[
         netlist: C17,
         stimulus: ROWS,
         machine: "logic 1\nslots 9\n",
-        more: "",
-        failing: (0, 0),
-        status: 0,
         output: TRACE,
-        line: "",
+        ..PLAIN
     },
     Case {
         calls: "run",
@@ -37,11 +34,8 @@ const CASES: &[Case] = &[
         netlist: C17,
         stimulus: ROWS,
         machine: "logic 1\narray 0\n",
-        more: "",
-        failing: (0, 0),
-        status: 0,
         output: TRACE,
-        line: "",
+        ..PLAIN
     },
     Case {
         calls: "run",
@@ -49,11 +43,8 @@ const CASES: &[Case] = &[
         netlist: C17,
         stimulus: ROWS,
         machine: "logic 2\narray 0\n",
-        more: "",
-        failing: (0, 0),
-        status: 0,
         output: TRACE,
-        line: "",
+        ..PLAIN
     },
     Case {
         calls: "run",
@@ -61,11 +52,8 @@ const CASES: &[Case] = &[
         netlist: C17,
         stimulus: ROWS,
         machine: "logic 4\narray 0\n",
-        more: "",
-        failing: (0, 0),
-        status: 0,
         output: TRACE,
-        line: "",
+        ..PLAIN
     },
     Case {
         calls: "run",
@@ -73,11 +61,8 @@ const CASES: &[Case] = &[
         netlist: C17,
         stimulus: ROWS,
         machine: "logic 254\narray 0\n",
-        more: "",
-        failing: (0, 0),
-        status: 0,
         output: TRACE,
-        line: "",
+        ..PLAIN
     },
     // Two different tables, one for each of two processors.
     Case {
@@ -86,11 +71,8 @@ const CASES: &[Case] = &[
         netlist: TWO_GATES,
         stimulus: "11\n01\n",
         machine: "logic 2\nfunctions 1\n",
-        more: "",
-        failing: (0, 0),
-        status: 0,
         output: "cycle y\n1 1\n2 0\n",
-        line: "",
+        ..PLAIN
     },
     // Designs that do not fit.
     Case {
@@ -99,11 +81,9 @@ const CASES: &[Case] = &[
         netlist: C17,
         stimulus: ROWS,
         machine: "logic 2\nslots 7\n",
-        more: "",
-        failing: (0, 0),
         status: 8,
-        output: "",
         line: "overfull: slots: 8 needed, limit is 7\n",
+        ..PLAIN
     },
     Case {
         calls: "run",
@@ -111,11 +91,9 @@ const CASES: &[Case] = &[
         netlist: TWO_GATES,
         stimulus: "11\n",
         machine: "logic 1\nfunctions 1\n",
-        more: "",
-        failing: (0, 0),
         status: 8,
-        output: "",
         line: "overfull: functions of logic port 0: 2 needed, limit is 1\n",
+        ..PLAIN
     },
     Case {
         calls: "run",
@@ -123,11 +101,9 @@ const CASES: &[Case] = &[
         netlist: LARGE,
         stimulus: "1\n",
         machine: "# the default\n",
-        more: "",
-        failing: (0, 0),
         status: 8,
-        output: "",
         line: "overfull: bits of memory q0: 131072 needed, 65536 left\n",
+        ..PLAIN
     },
     Case {
         calls: "run",
@@ -135,11 +111,9 @@ const CASES: &[Case] = &[
         netlist: LARGE,
         stimulus: "1\n",
         machine: "array 0\n",
-        more: "",
-        failing: (0, 0),
         status: 8,
-        output: "",
         line: "overfull: bits of memory q0: 131072 needed, 0 left\n",
+        ..PLAIN
     },
     // A loop is refused before the room is.
     Case {
@@ -148,11 +122,9 @@ const CASES: &[Case] = &[
         netlist: LATCH,
         stimulus: "01\n",
         machine: "logic 1\nslots 1\n",
-        more: "",
-        failing: (0, 0),
         status: 7,
-        output: "",
         line: "loop: q p\n",
+        ..PLAIN
     },
     // Machine texts that are refused.
     Case {
@@ -161,11 +133,9 @@ const CASES: &[Case] = &[
         netlist: C17,
         stimulus: ROWS,
         machine: "logic 0\n",
-        more: "",
-        failing: (0, 0),
         status: 6,
-        output: "",
         line: "machine: line 1: out of range\n",
+        ..PLAIN
     },
     Case {
         calls: "run",
@@ -173,11 +143,9 @@ const CASES: &[Case] = &[
         netlist: C17,
         stimulus: ROWS,
         machine: "logic 254\narray 2\n",
-        more: "",
-        failing: (0, 0),
         status: 6,
-        output: "",
         line: "machine: 257 ports, limit is 256\n",
+        ..PLAIN
     },
     Case {
         calls: "run",
@@ -185,11 +153,9 @@ const CASES: &[Case] = &[
         netlist: C17,
         stimulus: ROWS,
         machine: "slots 5\nslots 5\n",
-        more: "",
-        failing: (0, 0),
         status: 6,
-        output: "",
         line: "machine: line 2: given twice\n",
+        ..PLAIN
     },
     Case {
         calls: "run",
@@ -197,11 +163,9 @@ const CASES: &[Case] = &[
         netlist: C17,
         stimulus: ROWS,
         machine: "wheels 4\n",
-        more: "",
-        failing: (0, 0),
         status: 6,
-        output: "",
         line: "machine: line 1: syntax\n",
+        ..PLAIN
     },
 ];
 
@@ -218,102 +182,69 @@ const LAYOUTS: &[Case] = &[
         calls: "plan",
         words: PLANNED,
         netlist: C17,
-        stimulus: "",
         machine: "logic 2\n",
-        more: "",
-        failing: (0, 0),
-        status: 0,
         output: "slots 8\nl0 items 3 tables 1 takes 4\nl1 items 3 tables 1 takes 4\na0 items 0 bits 0 takes 0\nh items 5 takes 2\n1 h 0 l0\n2 h 1 l0\n3 h 2 l0 l1\n6 h 3 l1\n7 h 4 l1\n10 l0 3\n11 l1 4 l0\n16 l0 5 l1\n19 l1 5\n22 l0 6 h\n23 l1 7 h\n",
-        line: "",
+        ..PLAIN
     },
     // Eleven items in nine slots.
     Case {
         calls: "plan",
         words: PLANNED,
         netlist: C17,
-        stimulus: "",
         machine: "logic 1\nslots 9\n",
-        more: "",
-        failing: (0, 0),
-        status: 0,
         output: "slots 9\nl0 items 6 tables 1 takes 5\na0 items 0 bits 0 takes 0\nh items 5 takes 2\n1 h 0 l0\n2 h 1 l0\n3 h 2 l0\n6 h 3 l0\n7 h 4 l0\n10 l0 3\n11 l0 4\n16 l0 5\n19 l0 6\n22 l0 7 h\n23 l0 8 h\n",
-        line: "",
+        ..PLAIN
     },
     // In rank order and in unit delay.
     Case {
         calls: "plan",
         words: PLANNED,
         netlist: CUT,
-        stimulus: "",
         machine: "logic 2\n",
-        more: "",
-        failing: (0, 0),
-        status: 0,
         output: "slots 7\nl0 items 2 tables 2 takes 5\nl1 items 1 tables 1 takes 1\na0 items 2 bits 8 takes 4\nh items 5 takes 2\na1 h 0 l0 a0\na2 h 1 l0 a0\na3 h 2 l0 a0\na4 h 3 l0\na5 h 4 l1\nq a0 0 h\nr a0 1\nz/0 l0 4\nz/1 l1 5 l0\nz l0 6 a0 h\n",
-        line: "",
+        ..PLAIN
     },
     Case {
         calls: "plan --mode unit",
         words: PLANNED,
         netlist: CUT,
-        stimulus: "",
         machine: "logic 2\n",
-        more: "",
-        failing: (0, 0),
-        status: 0,
         output: "slots 6\nl0 items 2 tables 2 takes 5\nl1 items 1 tables 1 takes 1\na0 items 2 bits 8 takes 4\nh items 5 takes 2\na1 h 0 l0 a0\na2 h 1 l0 a0\na3 h 2 l0 a0\na4 h 3 l0\na5 h 4 l1\nq a0 0 h\nr a0 1\nz/0 l0 0\nz/1 l1 4 l0\nz l0 5 a0 h\n",
-        line: "",
+        ..PLAIN
     },
     // A memory, and a second array processor that has nothing to do.
     Case {
         calls: "plan",
         words: PLANNED,
         netlist: RAM,
-        stimulus: "",
         machine: "logic 1\narray 2\n",
-        more: "",
-        failing: (0, 0),
-        status: 0,
         output: "slots 4\nl0 items 0 tables 0 takes 0\na0 items 1 bits 4 takes 4\na1 items 0 bits 0 takes 0\nh items 4 takes 1\nwe h 0 a0\na0 h 1 a0\na1 h 2 a0\nd h 3 a0\nq a0 0 h\n",
-        line: "",
+        ..PLAIN
     },
     // A gate that is cut into two helpers and its own node.
     Case {
         calls: "plan",
         words: PLANNED,
         netlist: WIDE_GATE,
-        stimulus: "",
         machine: "logic 1\narray 0\n",
-        more: "",
-        failing: (0, 0),
-        status: 0,
         output: "slots 4\nl0 items 3 tables 3 takes 2\nh items 2 takes 1\na h 0 l0\nb h 1 l0\nz/0 l0 2\nz/1 l0 1\nz l0 3 h\n",
-        line: "",
+        ..PLAIN
     },
     // An input that is printed is at the host already, however often it is printed.
     Case {
         calls: "plan",
         words: PLANNED,
         netlist: "INPUT(a)\nOUTPUT(a)\nOUTPUT(a)\n",
-        stimulus: "",
         machine: "logic 1\narray 0\n",
-        more: "",
-        failing: (0, 0),
-        status: 0,
         output: "slots 1\nl0 items 0 tables 0 takes 0\nh items 1 takes 0\na h 0\n",
-        line: "",
+        ..PLAIN
     },
     Case {
         calls: "plan",
         words: PLANNED,
-        netlist: "",
-        stimulus: "",
         machine: "logic 1\narray 0\n",
-        more: "",
-        failing: (0, 0),
-        status: 0,
         output: "slots 0\nl0 items 0 tables 0 takes 0\nh items 0 takes 0\n",
-        line: "",
+        ..PLAIN
     },
 ];
 

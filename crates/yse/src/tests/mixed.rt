@@ -1,7 +1,7 @@
 //! Calls in mixed mode: lists of gates that are read and lists that are refused, and what a listed
 //! gate and the others read.
 
-use super::{C17, Case, LATCH, RAM, S27, WIDE, all_end};
+use super::{C17, Case, LATCH, PLAIN, RAM, S27, WIDE, all_end};
 
 /// The commands that print a trace, with numbers of workers and of banks.
 const ALL: &str = "refer|run --workers 1|run --workers 7|run --banks 3|order|order --banks 3";
@@ -22,36 +22,27 @@ const LOOPS: &[Case] = &[
         words: TWO_UNITS,
         netlist: LATCH,
         stimulus: LATCH_ROWS,
-        machine: "",
         more: "q\n",
-        failing: (0, 0),
-        status: 0,
         output: "cycle q p\n1 10\n2 10\n3 01\n",
-        line: "",
+        ..PLAIN
     },
     Case {
         calls: ALL,
         words: ONE_UNIT,
         netlist: LATCH,
         stimulus: LATCH_ROWS,
-        machine: "",
         more: "q\n",
-        failing: (0, 0),
-        status: 0,
         output: "cycle q p\n1 xx\n2 10\n3 11\n",
-        line: "",
+        ..PLAIN
     },
     Case {
         calls: ALL,
         words: ONE_UNIT,
         netlist: LATCH,
         stimulus: LATCH_ROWS,
-        machine: "",
         more: "p\n",
-        failing: (0, 0),
-        status: 0,
         output: "cycle q p\n1 1x\n2 10\n3 10\n",
-        line: "",
+        ..PLAIN
     },
     // Both gates: as in unit delay. The list has a comment, a line end of two bytes and blanks.
     Case {
@@ -59,12 +50,9 @@ const LOOPS: &[Case] = &[
         words: "net.bench net.stim --mode mixed --last net.more --units 4",
         netlist: LATCH,
         stimulus: LATCH_ROWS,
-        machine: "",
         more: "\tp # and\r\n\r\n q",
-        failing: (0, 0),
-        status: 0,
         output: "cycle q p\n1 10\n2 10\n3 01\n",
-        line: "",
+        ..PLAIN
     },
     // Neither: the loop is refused. So is a loop beside one that is cut.
     Case {
@@ -72,24 +60,19 @@ const LOOPS: &[Case] = &[
         words: TWO_UNITS,
         netlist: LATCH,
         stimulus: LATCH_ROWS,
-        machine: "",
-        more: "",
-        failing: (0, 0),
         status: 7,
-        output: "",
         line: "loop: q p\n",
+        ..PLAIN
     },
     Case {
         calls: ALL,
         words: ONE_UNIT,
         netlist: "OUTPUT(a)\na = NOT(a)\nb = NOT(b)\n",
         stimulus: "-\n",
-        machine: "",
         more: "a\n",
-        failing: (0, 0),
         status: 7,
-        output: "",
         line: "loop: b\n",
+        ..PLAIN
     },
 ];
 
@@ -106,48 +89,40 @@ const REFUSED: &[Case] = &[
         words: TWO_UNITS,
         netlist: LATCH,
         stimulus: LATCH_ROWS,
-        machine: "",
         more: "s\n",
-        failing: (0, 0),
         status: 13,
-        output: "",
         line: "last list: line 1: no such gate\n",
+        ..PLAIN
     },
     Case {
         calls: ALL,
         words: TWO_UNITS,
         netlist: LATCH,
         stimulus: "2\n",
-        machine: "",
         more: "q\nq\n",
-        failing: (0, 0),
         status: 13,
-        output: "",
         line: "last list: line 2: given twice\n",
+        ..PLAIN
     },
     Case {
         calls: ALL,
         words: TWO_UNITS,
         netlist: LATCH,
         stimulus: LATCH_ROWS,
-        machine: "",
         more: "q p\n",
-        failing: (0, 0),
         status: 13,
-        output: "",
         line: "last list: line 1: syntax\n",
+        ..PLAIN
     },
     Case {
         calls: ALL,
         words: ONE_UNIT,
         netlist: C17,
         stimulus: "11111\n",
-        machine: "",
         more: "22 # 23\nnnnnnnnnnnnnnnnnnnnnnnnnnnnnnnnnnnnnnnnnnnnnnnnnnnnnnnnnnnnnnnnnnnnnnnnnnnnnnnnnnnnnnnnnnnnnnnnnnnnnnnnnnnnnnnnnnnnnnnnnnnnnnnnnnnnnnnnnnnnnnnnnnnnnnnnnnnnnnnnnnnnnnnnnnnnnnnnnnnnnnnnnnnnnnnnnnnnnnnnnnnnnnnnnnnnnnnnnnnnnnnnnnnnnnnnnnnnnnnnnnnnnnnnnnnnnnnnn\n",
-        failing: (0, 0),
         status: 13,
-        output: "",
         line: "last list: line 2: syntax\n",
+        ..PLAIN
     },
     // A mark ends no name here, and the case of letters is kept.
     Case {
@@ -155,24 +130,20 @@ const REFUSED: &[Case] = &[
         words: ONE_UNIT,
         netlist: C17,
         stimulus: "11111\n",
-        machine: "",
         more: "22\n23,\n",
-        failing: (0, 0),
         status: 13,
-        output: "",
         line: "last list: line 2: syntax\n",
+        ..PLAIN
     },
     Case {
         calls: ALL,
         words: ONE_UNIT,
         netlist: S27,
         stimulus: "0000\n",
-        machine: "",
         more: "G17\ng17\n",
-        failing: (0, 0),
         status: 13,
-        output: "",
         line: "last list: line 2: no such gate\n",
+        ..PLAIN
     },
     // A register and the output of a memory are no gates.
     Case {
@@ -180,24 +151,20 @@ const REFUSED: &[Case] = &[
         words: ONE_UNIT,
         netlist: S27,
         stimulus: "0000\n",
-        machine: "",
         more: "G17\nG5\n",
-        failing: (0, 0),
         status: 13,
-        output: "",
         line: "last list: line 2: no such gate\n",
+        ..PLAIN
     },
     Case {
         calls: ALL,
         words: ONE_UNIT,
         netlist: RAM,
         stimulus: "0000\n",
-        machine: "",
         more: "q\n",
-        failing: (0, 0),
         status: 13,
-        output: "",
         line: "last list: line 1: no such gate\n",
+        ..PLAIN
     },
     // The list is read behind the netlist, and a file that is missing is told.
     Case {
@@ -205,24 +172,19 @@ const REFUSED: &[Case] = &[
         words: ONE_UNIT,
         netlist: "INPUT(a\n",
         stimulus: "0\n",
-        machine: "",
         more: "(\n",
-        failing: (0, 0),
         status: 5,
-        output: "",
         line: "netlist: line 1: syntax\n",
+        ..PLAIN
     },
     Case {
         calls: ALL,
         words: "net.bench net.stim --mode mixed --last other",
         netlist: LATCH,
         stimulus: LATCH_ROWS,
-        machine: "",
-        more: "",
-        failing: (0, 0),
         status: 3,
-        output: "",
         line: "read fault: other\n",
+        ..PLAIN
     },
 ];
 
@@ -239,36 +201,26 @@ const TURNS: &[Case] = &[
         words: ONE_UNIT,
         netlist: WIDE,
         stimulus: "11111111111111111\n11111111111111110\n",
-        machine: "",
         more: "z\n",
-        failing: (0, 0),
-        status: 0,
         output: "cycle z\n1 x\n2 1\n",
-        line: "",
+        ..PLAIN
     },
     Case {
         calls: ALL,
         words: TWO_UNITS,
         netlist: WIDE,
         stimulus: "11111111111111111\n11111111111111110\n",
-        machine: "",
         more: "z\n",
-        failing: (0, 0),
-        status: 0,
         output: "cycle z\n1 1\n2 0\n",
-        line: "",
+        ..PLAIN
     },
     Case {
         calls: ALL,
         words: ONE_UNIT,
         netlist: WIDE,
         stimulus: "11111111111111111\n11111111111111110\n",
-        machine: "",
-        more: "",
-        failing: (0, 0),
-        status: 0,
         output: "cycle z\n1 1\n2 0\n",
-        line: "",
+        ..PLAIN
     },
     // Every gate: as in unit delay. No gate: as in rank order, however many turns a cycle has.
     Case {
@@ -276,86 +228,61 @@ const TURNS: &[Case] = &[
         words: "net.bench net.stim --mode mixed --last net.more --units 3",
         netlist: C17,
         stimulus: "11111 * 2\n",
-        machine: "",
         more: "10\n11\n16\n19\n22\n23\n",
-        failing: (0, 0),
-        status: 0,
         output: "cycle 22 23\n1 1x\n2 10\n",
-        line: "",
+        ..PLAIN
     },
     Case {
         calls: ALL,
         words: "net.bench net.stim --mode mixed --last net.more --units 3 --init 0",
         netlist: S27,
         stimulus: "0000\n0001\n0000\n1000\n0001\n",
-        machine: "",
-        more: "",
-        failing: (0, 0),
-        status: 0,
         output: "cycle G17\n1 1\n2 0\n3 0\n4 1\n5 1\n",
-        line: "",
+        ..PLAIN
     },
     Case {
         calls: ALL,
         words: TWO_UNITS,
         netlist: RAM,
         stimulus: "1101\n0100\n0100\n1100\n0100\n0100\n",
-        machine: "",
         more: "# none\n",
-        failing: (0, 0),
-        status: 0,
         output: "cycle q\n1 x\n2 x\n3 1\n4 1\n5 1\n6 0\n",
-        line: "",
+        ..PLAIN
     },
     // A plan: what a listed gate reads is sent in any slot.
     Case {
         calls: "plan",
         words: PLAN,
         netlist: LATCH,
-        stimulus: "",
-        machine: "",
         more: "q\n",
-        failing: (0, 0),
-        status: 0,
         output: "slots 3\nl0 items 1 tables 1 takes 2\nl1 items 1 tables 1 takes 2\nl2 items 0 tables 0 takes 0\nl3 items 0 tables 0 takes 0\na0 items 0 bits 0 takes 0\nh items 2 takes 2\ns h 0 l0\nr h 1 l1\nq l0 0 l1 h\np l1 2 l0 h\n",
-        line: "",
+        ..PLAIN
     },
     // A gate of five operands that is listed has helpers of the same turn, and the gate that reads it comes after it.
     Case {
         calls: "plan",
         words: PLAN,
         netlist: "INPUT(a)\nINPUT(b)\nOUTPUT(y)\nz = NAND(a, b, a, b, a)\ny = NOT(z)\n",
-        stimulus: "",
-        machine: "",
         more: "z\n",
-        failing: (0, 0),
-        status: 0,
         output: "slots 4\nl0 items 1 tables 1 takes 2\nl1 items 1 tables 1 takes 1\nl2 items 1 tables 1 takes 2\nl3 items 1 tables 1 takes 1\na0 items 0 bits 0 takes 0\nh items 2 takes 1\na h 0 l0 l1\nb h 1 l0\nz/0 l0 0 l2\nz/1 l1 1 l2\nz l2 2 l3\ny l3 3 h\n",
-        line: "",
+        ..PLAIN
     },
     Case {
         calls: "plan",
         words: PLAN,
         netlist: LATCH,
-        stimulus: "",
-        machine: "",
         more: "r\n",
-        failing: (0, 0),
         status: 13,
-        output: "",
         line: "last list: line 1: no such gate\n",
+        ..PLAIN
     },
     Case {
         calls: "plan",
         words: PLAN,
         netlist: LATCH,
-        stimulus: "",
-        machine: "",
-        more: "",
-        failing: (0, 0),
         status: 7,
-        output: "",
         line: "loop: q p\n",
+        ..PLAIN
     },
 ];
 

@@ -1,7 +1,7 @@
 //! Runs in given orders: those that suffice, those that end before the run does, and the banks by which ports may run
 //! ahead.
 
-use super::{C17, Case, EASY, RAM, S27, Texts, all_end, all_print, end_of, texts_of};
+use super::{C17, Case, EASY, PLAIN, RAM, S27, Texts, all_end, all_print, end_of, texts_of};
 use seen_list::{Memory, Text};
 use std::alloc::Global;
 use std::marker::Sync;
@@ -28,10 +28,8 @@ const CASES: &[Case] = &[
         stimulus: C17_ROWS,
         machine: TWO_LOGIC,
         more: "2 * 1000\n3 * 1000\n1 * 1000\n0 * 1000\n1 * 1000\n3 * 1000\n1 * 1000\n0 * 1000\n1 * 1000\n3 * 1000\n1 * 1000\n0 * 1000\n1 * 1000\n3 * 1000\n",
-        failing: (0, 0),
-        status: 0,
         output: "cycle 22 23\n1 10\n2 00\n3 xx\n",
-        line: "",
+        ..PLAIN
     },
     Case {
         calls: "order --banks 1",
@@ -40,10 +38,10 @@ const CASES: &[Case] = &[
         stimulus: C17_ROWS,
         machine: TWO_LOGIC,
         more: "2 * 1000\n3 * 1000\n1 * 1000\n0 * 1000\n1 * 1000\n3 * 1000\n1 * 1000\n0 * 1000\n1 * 1000\n3 * 1000\n1 * 1000\n0 * 1000\n1 * 1000\n",
-        failing: (0, 0),
         status: 11,
         output: "cycle 22 23\n1 10\n2 00\n",
         line: "order: ended with 2 of 3 rows done\n",
+        ..PLAIN
     },
     // The host alone: it runs ahead of its reader by as many turns as there are banks.
     Case {
@@ -53,10 +51,10 @@ const CASES: &[Case] = &[
         stimulus: "0\n1\n0\n",
         machine: ONE_LOGIC,
         more: "1 * 100\n",
-        failing: (0, 0),
         status: 11,
         output: "cycle a\n1 0\n",
         line: "order: ended with 1 of 3 rows done\n",
+        ..PLAIN
     },
     Case {
         calls: "order --banks 2",
@@ -65,10 +63,10 @@ const CASES: &[Case] = &[
         stimulus: "0\n1\n0\n",
         machine: ONE_LOGIC,
         more: "1 * 100\n",
-        failing: (0, 0),
         status: 11,
         output: "cycle a\n1 0\n2 1\n",
         line: "order: ended with 2 of 3 rows done\n",
+        ..PLAIN
     },
     Case {
         calls: "order --banks 3",
@@ -77,10 +75,10 @@ const CASES: &[Case] = &[
         stimulus: "0\n1\n0\n",
         machine: ONE_LOGIC,
         more: "1 * 100\n",
-        failing: (0, 0),
         status: 11,
         output: "cycle a\n1 0\n2 1\n3 0\n",
         line: "order: ended with 3 of 3 rows done\n",
+        ..PLAIN
     },
     Case {
         calls: "order --banks 3",
@@ -89,10 +87,8 @@ const CASES: &[Case] = &[
         stimulus: "0\n1\n0\n",
         machine: ONE_LOGIC,
         more: "1 * 100\n0 * 100\n",
-        failing: (0, 0),
-        status: 0,
         output: "cycle a\n1 0\n2 1\n3 0\n",
-        line: "",
+        ..PLAIN
     },
 ];
 

@@ -1,7 +1,7 @@
 //! Plans on machines whose ports have limits of their own: the texts of such machines, designs that they
 //! hold, and designs that they don't.
 
-use super::{C17, Case, all_end};
+use super::{C17, Case, PLAIN, all_end};
 
 const PLANNED: &str = "net.bench --machine net.machine";
 
@@ -23,213 +23,157 @@ const CASES: &[Case] = &[
         calls: "plan",
         words: PLANNED,
         netlist: C17,
-        stimulus: "",
         machine: "version 2\nlogic 2\nnodes 0 1\n",
-        more: "",
-        failing: (0, 0),
-        status: 0,
         output: "slots 9\nl0 items 1 tables 1 takes 2\nl1 items 5 tables 1 takes 5\na0 items 0 bits 0 takes 0\nh items 5 takes 2\n1 h 0 l0\n2 h 1 l1\n3 h 2 l0 l1\n6 h 3 l1\n7 h 4 l1\n10 l0 5 l1\n11 l1 4\n16 l1 5\n19 l1 6\n22 l1 7 h\n23 l1 8 h\n",
-        line: "",
+        ..PLAIN
     },
     Case {
         calls: "plan",
         words: PLANNED,
         netlist: C17,
-        stimulus: "",
         machine: "# limits\n\tVersion 002 # the second\r\nlogic 3\nNODES 2\nnodes 1 1\nnodes 00002 4\n",
-        more: "",
-        failing: (0, 0),
-        status: 0,
         output: "slots 9\nl0 items 2 tables 1 takes 4\nl1 items 1 tables 1 takes 2\nl2 items 3 tables 1 takes 4\na0 items 0 bits 0 takes 0\nh items 5 takes 2\n1 h 0 l0\n2 h 1 l2\n3 h 2 l0 l1\n6 h 3 l1\n7 h 4 l0\n10 l0 3 l2\n11 l1 5 l0 l2\n16 l2 6\n19 l0 6 l2\n22 l2 7 h\n23 l2 8 h\n",
-        line: "",
+        ..PLAIN
     },
     // The second memory finds no room at the first array processor.
     Case {
         calls: "plan",
         words: PLANNED,
         netlist: TWO_MEMORIES,
-        stimulus: "",
         machine: "version 2\nlogic 1\narray 2\nbits 0 3\n",
-        more: "",
-        failing: (0, 0),
-        status: 0,
         output: "slots 2\nl0 items 0 tables 0 takes 0\na0 items 1 bits 2 takes 1\na1 items 2 bits 4 takes 1\nh items 1 takes 0\na h 0 a0 a1\nq a0 0\nr a1 0\ns a1 1\n",
-        line: "",
+        ..PLAIN
     },
     // Functions by the limit of the port itself.
     Case {
         calls: "plan",
         words: PLANNED,
         netlist: TWO_GATES,
-        stimulus: "",
         machine: "version 2\nlogic 1\nfunctions 1\nfunctions 0 2\n",
-        more: "",
-        failing: (0, 0),
-        status: 0,
         output: "slots 4\nl0 items 2 tables 2 takes 2\na0 items 0 bits 0 takes 0\nh items 2 takes 1\na h 0 l0\nb h 1 l0\ny l0 2 h\nz l0 3\n",
-        line: "",
+        ..PLAIN
     },
     Case {
         calls: "plan",
         words: PLANNED,
         netlist: TWO_GATES,
-        stimulus: "",
         machine: "version 2\nlogic 1\nfunctions 0 1\n",
-        more: "",
-        failing: (0, 0),
         status: 8,
-        output: "",
         line: "overfull: functions of logic port 0: 2 needed, limit is 1\n",
+        ..PLAIN
     },
     // Too many nodes, which is told after the bits and before the slots.
     Case {
         calls: "plan",
         words: PLANNED,
         netlist: C17,
-        stimulus: "",
         machine: "version 2\nlogic 2\nnodes 2\n",
-        more: "",
-        failing: (0, 0),
         status: 8,
-        output: "",
         line: "overfull: nodes: 6 needed, limit is 4\n",
+        ..PLAIN
     },
     Case {
         calls: "plan",
         words: PLANNED,
         netlist: C17,
-        stimulus: "",
         machine: "version 2\nlogic 2\nnodes 2\nslots 1\n",
-        more: "",
-        failing: (0, 0),
         status: 8,
-        output: "",
         line: "overfull: nodes: 6 needed, limit is 4\n",
+        ..PLAIN
     },
     Case {
         calls: "plan",
         words: PLANNED,
         netlist: LARGE,
-        stimulus: "",
         machine: "version 2\nlogic 1\nnodes 1\n",
-        more: "",
-        failing: (0, 0),
         status: 8,
-        output: "",
         line: "overfull: bits of memory q0: 131072 needed, 65536 left\n",
+        ..PLAIN
     },
     // A register and two helpers are nodes too.
     Case {
         calls: "plan",
         words: PLANNED,
         netlist: REGISTER_AND_HELPERS,
-        stimulus: "",
         machine: "version 2\nlogic 1\narray 0\nnodes 4\n",
-        more: "",
-        failing: (0, 0),
-        status: 0,
         output: "slots 4\nl0 items 4 tables 3 takes 1\nh items 1 takes 0\na h 0 l0\nr l0 0\nz/1 l0 1\nz/0 l0 2\nz l0 3\n",
-        line: "",
+        ..PLAIN
     },
     Case {
         calls: "plan",
         words: PLANNED,
         netlist: REGISTER_AND_HELPERS,
-        stimulus: "",
         machine: "version 2\nlogic 1\narray 0\nnodes 3\n",
-        more: "",
-        failing: (0, 0),
         status: 8,
-        output: "",
         line: "overfull: nodes: 4 needed, limit is 3\n",
+        ..PLAIN
     },
     // The most bits that are left are those of the second of three array processors.
     Case {
         calls: "plan",
         words: PLANNED,
         netlist: "INPUT(a)\n[q] = RAM(a; a; a)\n[r, s, t] = RAM(a; a, a; a, a, a)\n",
-        stimulus: "",
         machine: "version 2\nlogic 1\narray 3\nbits 0 3\nbits 1 11\nbits 2 5\n",
-        more: "",
-        failing: (0, 0),
         status: 8,
-        output: "",
         line: "overfull: bits of memory r: 12 needed, 11 left\n",
+        ..PLAIN
     },
     // The first processor has one function, and the second one more than it may have.
     Case {
         calls: "plan",
         words: PLANNED,
         netlist: "INPUT(a)\nINPUT(b)\nw = AND(a, b)\nx = OR(a, b)\ny = AND(b, a)\nz = XOR(a, b)\n",
-        stimulus: "",
         machine: "version 2\nlogic 2\nfunctions 1\n",
-        more: "",
-        failing: (0, 0),
         status: 8,
-        output: "",
         line: "overfull: functions of logic port 1: 2 needed, limit is 1\n",
+        ..PLAIN
     },
     // A limit of a port that is not there, after every fault of a line and the number of the ports.
     Case {
         calls: "plan",
         words: PLANNED,
         netlist: C17,
-        stimulus: "",
         machine: "version 2\nlogic 2\nnodes 2 5\n",
-        more: "",
-        failing: (0, 0),
         status: 6,
-        output: "",
         line: "machine: line 3: no such port\n",
+        ..PLAIN
     },
     Case {
         calls: "plan",
         words: PLANNED,
         netlist: C17,
-        stimulus: "",
         machine: "version 2\narray 0\nbits 0 5\n",
-        more: "",
-        failing: (0, 0),
         status: 6,
-        output: "",
         line: "machine: line 3: no such port\n",
+        ..PLAIN
     },
     Case {
         calls: "plan",
         words: PLANNED,
         netlist: C17,
-        stimulus: "",
         machine: "version 2\nnodes 9 1\nslots 0\n",
-        more: "",
-        failing: (0, 0),
         status: 6,
-        output: "",
         line: "machine: line 3: out of range\n",
+        ..PLAIN
     },
     Case {
         calls: "plan",
         words: PLANNED,
         netlist: C17,
-        stimulus: "",
         machine: "version 2\nnodes 255 1\nlogic 254\narray 2\n",
-        more: "",
-        failing: (0, 0),
         status: 6,
-        output: "",
         line: "machine: 257 ports, limit is 256\n",
+        ..PLAIN
     },
     // What no text of the first version sets.
     Case {
         calls: "plan",
         words: PLANNED,
         netlist: C17,
-        stimulus: "",
         machine: "nodes 5\n",
-        more: "",
-        failing: (0, 0),
         status: 6,
-        output: "",
         line: "machine: line 1: syntax\n",
+        ..PLAIN
     },
 ];
 

@@ -6,8 +6,8 @@ ghost use Rattle.std.specs.Prelude.{IfOk, Option, Some, length, slice_get, ℕ, 
 
 use super::watch::{Shared, Watch, WatchGate, watch_gate};
 use super::{
-    C17, Case, EASY, Edges, Ended, FILES, GATES, RUNS, S27, Texts, all_end, end_of, end_with, four,
-    is_end, texts_of,
+    C17, Case, EASY, Edges, Ended, FILES, GATES, PLAIN, RUNS, S27, Texts, all_end, end_of,
+    end_with, four, is_end, texts_of,
 };
 use crew_run::Gate;
 use seen_list::{List, Memory};
@@ -36,36 +36,20 @@ const CASES: &[Case] = &[
         words: "net.bench net.stim --init 0",
         netlist: S27,
         stimulus: S27_ROWS,
-        machine: "",
-        more: "",
-        failing: (0, 0),
-        status: 0,
         output: S27_TRACE,
-        line: "",
+        ..PLAIN
     },
     Case {
         calls: "large --workers 1|large --workers 4|large --workers 64",
         words: "2000 20",
-        netlist: "",
-        stimulus: "",
-        machine: "",
-        more: "",
-        failing: (0, 0),
-        status: 0,
         output: THOUSANDS,
-        line: "",
+        ..PLAIN
     },
     Case {
         calls: "large --workers 1|large --workers 1",
         words: "20000 200",
-        netlist: "",
-        stimulus: "",
-        machine: "",
-        more: "",
-        failing: (0, 0),
-        status: 0,
         output: TENS_OF_THOUSANDS,
-        line: "",
+        ..PLAIN
     },
 ];
 

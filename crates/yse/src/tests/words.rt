@@ -1,6 +1,6 @@
 //! Words: those that are of no form, and those that are, by the first file that they name. None is there.
 
-use super::{Case, all_end};
+use super::{Case, PLAIN, all_end};
 
 const USAGE: &str =
     "usage: yse (run/refer/order) NETLIST STIMULUS [options], yse plan NETLIST [options], yse show NETLIST, yse large GATES CYCLES [options]\n";
@@ -49,111 +49,65 @@ const CASES: &[Case] = &[
     Case {
         calls: REFUSED,
         words: "",
-        netlist: "",
-        stimulus: "",
-        machine: "",
-        more: "",
-        failing: (0, 0),
         status: 2,
-        output: "",
         line: USAGE,
+        ..PLAIN
     },
     Case {
         calls: NETLIST_FIRST,
         words: "",
-        netlist: "",
-        stimulus: "",
-        machine: "",
-        more: "",
-        failing: (0, 0),
         status: 3,
-        output: "",
         line: "read fault: a\n",
+        ..PLAIN
     },
     Case {
         calls: MACHINE_FIRST,
         words: "",
-        netlist: "",
-        stimulus: "",
-        machine: "",
-        more: "",
-        failing: (0, 0),
         status: 3,
-        output: "",
         line: "read fault: m\n",
+        ..PLAIN
     },
     Case {
         calls: "large 2 2|large --workers 1 2 2|large -- 2 2",
         words: "",
-        netlist: "",
-        stimulus: "",
-        machine: "",
-        more: "",
-        failing: (0, 0),
-        status: 0,
         output: "gates 2 nodes 2 slots 9 crossings 5\nzeros 2 ones 2 xs 0 zs 0\n",
-        line: "",
+        ..PLAIN
     },
     Case {
         calls: "help show|help -- show",
         words: "",
-        netlist: "",
-        stimulus: "",
-        machine: "",
-        more: "",
-        failing: (0, 0),
-        status: 0,
         output: "yse show NETLIST\n\nPrints a line for each input, printed name, gate, register and memory.\n\nExample: yse show s27.bench\n",
-        line: "",
+        ..PLAIN
     },
     Case {
         calls: "help show",
         words: "",
-        netlist: "",
-        stimulus: "",
-        machine: "",
-        more: "",
         failing: (0, 1),
         status: 4,
-        output: "",
         line: "write fault\n",
+        ..PLAIN
     },
     // Values that begin with `-`, and one with an `=` in it.
     Case {
         calls: "run a b --machine=-m",
         words: "",
-        netlist: "",
-        stimulus: "",
-        machine: "",
-        more: "",
-        failing: (0, 0),
         status: 3,
-        output: "",
         line: "read fault: -m\n",
+        ..PLAIN
     },
     Case {
         calls: "run a b --machine=--|run -- -- -",
         words: "",
-        netlist: "",
-        stimulus: "",
-        machine: "",
-        more: "",
-        failing: (0, 0),
         status: 3,
-        output: "",
         line: "read fault: --\n",
+        ..PLAIN
     },
     Case {
         calls: "run a b --machine=m=n",
         words: "",
-        netlist: "",
-        stimulus: "",
-        machine: "",
-        more: "",
-        failing: (0, 0),
         status: 3,
-        output: "",
         line: "read fault: m=n\n",
+        ..PLAIN
     },
 ];
 
