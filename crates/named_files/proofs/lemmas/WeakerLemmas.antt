@@ -18,7 +18,7 @@ use Rattle.named_files.specs.Designs.{Placed, Prepared}
 use Rattle.named_files.specs.Outcome.{Outcome}
 use Rattle.named_files.specs.Passing.{AfterBuilt, AfterNetlistFile, AfterOrderFile, AfterPlaced, AfterPlacedOn, AfterReady, AfterRunnable, AfterTimed, Continuation, placed}
 use Rattle.named_files.specs.Readings.{Reading}
-use Rattle.named_files.specs.Images.{IsAccepted}
+use Rattle.named_files.specs.Images.{IsAccepted, IsImageFileOf}
 use Rattle.named_files.specs.Files.{AfterFaultList, AfterFit, AfterImage, AfterLanes, AfterList, AfterMachine, AfterMatch, AfterNetlist, AfterStimulus}
 
 -- what follows one end follows the other
