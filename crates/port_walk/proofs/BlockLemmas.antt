@@ -6,20 +6,16 @@ use Rattle.std.proofs.lemmas.Bool.Decides.{eqb_tells, leb_tells}
 use Rattle.std.proofs.lemmas.Nat.{div-mul-add}
 use Rattle.net_defs.specs.declared.stimulus.Stimulus.{Stimulus}
 use Rattle.net_defs.specs.Time.{cycle_count, turn_count}
-use Rattle.net_defs.specs.Valid.{IsValidStimulus}
 use Rattle.image_defs.specs.declared.image.Image.{Image}
 use Rattle.image_defs.specs.declared.image.LinkIn.{LinkIn}
 use Rattle.image_defs.specs.Steps.{timing_of}
-use Rattle.image_defs.specs.WellFormed.{IsWellFormed}
-use Rattle.image_defs.specs.Ports.{View, PortView, at_first, last_turn}
+use Rattle.image_defs.specs.Ports.{View, at_first}
 use Rattle.port_bank.specs.Runs.{HasRoom}
 use Rattle.port_walk.specs.declared.any_port.AnyPort.TheInside.{Inside}
 use Rattle.port_walk.specs.Blocks.{placed, view_of, IsKept}
-use Rattle.port_walk.specs.declared.kind.Kind.{Kind}
-use Rattle.port_walk.specs.Kinds.{view_in, rows_in, rows_of}
-use Rattle.port_walk.specs.code.Kinds.{IsFirst}
+use Rattle.port_walk.specs.Kinds.{rows_of}
 use Rattle.port_walk.specs.Placed.{PlacedPort, CanGoOn, CanPut, HasPut, HasTaken, IsReceiving, block_end}
-use Rattle.port_walk.specs.Walks.{Walked, started, HasRowRoom}
+use Rattle.port_walk.specs.Walks.{Walked, HasRowRoom}
 use Rattle.port_walk.specs.code.Enters.{given_up, rests_no_more}
 use Rattle.port_walk.specs.Walks as walks
 
@@ -76,27 +72,6 @@ given_in image p first window = elim (eqb_tells (p + 1) (length image.ports)) [
   | inl h ↦ rw h.0 refl
   | inr h ↦ rw h.0 refl
 ]
-
--- ---- a port before its first event
-
-module _ (image : Image) (stimulus : Stimulus) (p window : ℕ) (kind : Kind) (first : IsFirst image stimulus p window kind)
-    (cycles until : ℕ) (cycles_are : cycles ≡ cycle_count stimulus) (until_is : until ≡ image.units * min (0 + window) cycles) where
-  first_end : until ≡ block_end image stimulus 0 window
-  first_end = until_is ∙ ap (λ n. image.units * min (0 + window) n) cycles_are
-
-  pub first_few : until ≤ last_turn (view_in kind)
-  first_few = subst (λ (view : PortView). until ≤ last_turn view) (sym first.view) (subst (λ n. n ≤ turn_count (timing_of image) stimulus) (sym first_end) (end_low image stimulus 0 window))
-
-  module _ (walk : Walked Stimulus) (made : walk ≡ started (view_in kind) (rows_in kind) until) where
-    pub first_walk : walk ≡ started (at_first image stimulus p) (rows_of image p (window, 0)) (block_end image stimulus 0 window)
-    first_walk =
-        made ∙ ap (λ (view : PortView). started view (rows_in kind) until) first.view ∙ ap (λ rows. started (at_first image stimulus p) rows until) first.rows
-        ∙ ap (started (at_first image stimulus p) (rows_of image p (window, 0))) first_end
-
-    pub first_kept : IsWellFormed image → IsValidStimulus stimulus → 1 ≤ window → IsKept (record { walk = walk; units = image.units; cycles = cycles; window = window; first_row = 0 })
-    first_kept good valid some =
-        subst (λ w. IsKept (record { walk = w; units = image.units; cycles = cycles; window = window; first_row = 0 })) (sym first_walk)
-        (record { image = good; stimulus = valid; units = refl; cycles = cycles_are; some = some; until = refl; rows = refl })
 
 -- ---- a port at the end of its block
 

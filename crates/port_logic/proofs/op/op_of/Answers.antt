@@ -9,22 +9,19 @@ bounds-forms-table g c =
     let low : c.in-Eval.table < length c.args.tables.now = subst (IsTabled (length c.args.tables.now)) c.in-Eval.is c.requires.tabled in
     omega (arith, low, c.requires.forms.long)
 
-pub gate_of-requires-clause-form : goal.gate_of-requires-clause-form
-gate_of-requires-clause-form g c =
+pub gate_of-requires : goal.gate_of-requires
+gate_of-requires g c =
     let low : c.in-Eval.table < length c.args.tables.now = subst (IsTabled (length c.args.tables.now)) c.in-Eval.is c.requires.tabled in
-    c.requires.forms.each c.in-Eval.table c.index-forms-table.result (slice_get_read c.args.forms.now (length c.args.tables.now) c.in-Eval.table c.index-forms-table.result (sym c.requires.forms.long) low c.index-forms-table.is)
-
-pub gate_of-requires-clause-a : goal.gate_of-requires-clause-a
-gate_of-requires-clause-a g c = (subst (IsTaskWithin c.args.slots) c.in-Eval.is c.requires.within).0
-
-pub gate_of-requires-clause-b : goal.gate_of-requires-clause-b
-gate_of-requires-clause-b g c = (subst (IsTaskWithin c.args.slots) c.in-Eval.is c.requires.within).1
-
-pub gate_of-requires-clause-c : goal.gate_of-requires-clause-c
-gate_of-requires-clause-c g c = (subst (IsTaskWithin c.args.slots) c.in-Eval.is c.requires.within).2
-
-pub gate_of-requires-clause-d : goal.gate_of-requires-clause-d
-gate_of-requires-clause-d g c = (subst (IsTaskWithin c.args.slots) c.in-Eval.is c.requires.within).3
+    let within = subst (IsTaskWithin c.args.slots) c.in-Eval.is c.requires.within in
+    record {
+      few = c.requires.few;
+      tabled = low;
+      form = c.requires.forms.each c.in-Eval.table c.index-forms-table.result (slice_get_read c.args.forms.now (length c.args.tables.now) c.in-Eval.table c.index-forms-table.result (sym c.requires.forms.long) low c.index-forms-table.is);
+      a = within.0;
+      b = within.1;
+      c = within.2;
+      d = within.3;
+    }
 
 pub operand_of-requires-clause-within : goal.operand_of-requires-clause-within
 operand_of-requires-clause-within g c = subst (IsTaskWithin c.args.slots) c.in-Hold.is c.requires.within

@@ -3,8 +3,6 @@ use Rattle.net_defs.specs.Valid.{IsValidStimulus}
 use Rattle.image_defs.specs.Places.{IsPort}
 use Rattle.image_defs.specs.Ports.{PortView, at_first}
 use Rattle.image_defs.specs.WellFormed.{IsWellFormed}
-use Rattle.port_walk.specs.Blocks.{placed}
-use Rattle.port_walk.proofs.BlockLemmas.{first_few, first_kept, first_walk}
 use Rattle.port_walk.proofs.lemmas.KindLemmas.{seat_there}
 use Rattle.port_walk.proofs.any_port.AnyPort.new.Goals as goal
 
@@ -29,17 +27,3 @@ new-requires-clause-seat c =
 
 pub new-requires-clause-first : goal.new-requires-clause-first
 new-requires-clause-first c = subst (λ (view : PortView). view ≡ at_first view.image view.stimulus view.port) (sym c.in_ok-kind.ensures.view) refl
-
-pub new-requires-clause-until : goal.new-requires-clause-until
-new-requires-clause-until c = first_few c.args.image.now c.args.stim.now c.args.port c.args.window c.in_ok-kind.kind c.in_ok-kind.ensures c.cycles-cycles.result c.last_turn-until.result c.cycles-cycles.ensures c.last_turn-until.ensures
-
-pub invariant_of-result : goal.invariant_of-result
-invariant_of-result c =
-    first_kept c.args.image.now c.args.stim.now c.args.port c.args.window c.in_ok-kind.kind c.in_ok-kind.ensures c.cycles-cycles.result c.last_turn-until.result c.cycles-cycles.ensures c.last_turn-until.ensures
-    c.new.result c.new.ensures c.requires.image c.requires.stimulus c.requires.some
-
-pub returns : goal.returns
-returns c =
-    ap (placed c.args.window 0)
-    (first_walk c.args.image.now c.args.stim.now c.args.port c.args.window c.in_ok-kind.kind c.in_ok-kind.ensures c.cycles-cycles.result c.last_turn-until.result c.cycles-cycles.ensures c.last_turn-until.ensures
-    c.new.result c.new.ensures)
