@@ -1,7 +1,7 @@
 use Rattle.event_defs.specs.declared.place.Event.TheVariants as event
 use Rattle.crew_run.specs.declared.stepper.Step.TheVariants.{Moved}
 use Rattle.port_run.specs.Kept.{view_of}
-use Rattle.port_run.proofs.RunLemmas.{kept_after, put_event, put_placed}
+use Rattle.port_run.proofs.RunLemmas.{HasStepped, kept_after, put_event, put_placed}
 use Rattle.port_run.proofs.lemmas.StepLemmas.{step_of}
 use Rattle.yse.proofs.tests.below.of_slot_words.Hand.put.Goals as goal
 
@@ -14,6 +14,8 @@ invariant_of-self-clause-own c =
 pub invariant_of-self-clause-there : goal.invariant_of-self-clause-there
 invariant_of-self-clause-there c =
     let a = c.args.self.now in
-    kept_after (record { pass = a.pass; port = a.port }) c.put.new.pass c.put_done.new.self Moved a.there
-    (event.Put c.args.slot, put_event (view_of (record { pass = a.pass; port = a.port })) c.args.slot c.args.value c.requires c.put.new.pass c.put.ensures)
-    (put_placed (view_of (record { pass = a.pass; port = a.port })) c.args.slot c.args.value c.requires c.put.new.pass c.put.ensures a.port c.put_done.new.self a.there.port c.put_done.ensures)
+    let stepped : HasStepped (record { pass = a.pass; port = a.port }) Moved c.put.new.pass c.put_done.new.self = record {
+      step = (event.Put c.args.slot, put_event (view_of (record { pass = a.pass; port = a.port })) c.args.slot c.args.value c.requires c.put.new.pass c.put.ensures);
+      is = put_placed (view_of (record { pass = a.pass; port = a.port })) c.args.slot c.args.value c.requires c.put.new.pass c.put.ensures a.port c.put_done.new.self a.there.port c.put_done.ensures;
+    } in
+    kept_after stepped a.there

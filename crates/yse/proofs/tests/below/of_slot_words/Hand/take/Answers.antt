@@ -1,7 +1,7 @@
 use Rattle.event_defs.specs.declared.place.Event.TheVariants as event
 use Rattle.crew_run.specs.declared.stepper.Step.TheVariants.{Moved, NotYet}
 use Rattle.port_run.specs.Kept.{view_of}
-use Rattle.port_run.proofs.RunLemmas.{kept_after, may_take, missed_placed, missed_wait, took_event, took_placed}
+use Rattle.port_run.proofs.RunLemmas.{HasStepped, kept_after, may_take, missed_placed, missed_wait, took_event, took_placed}
 use Rattle.port_run.proofs.lemmas.StepLemmas.{step_of}
 use Rattle.yse.proofs.tests.below.of_slot_words.Hand.take.Goals as goal
 
@@ -19,9 +19,11 @@ invariant_of-self-clause-own c =
 pub invariant_of-self-clause-there : goal.invariant_of-self-clause-there
 invariant_of-self-clause-there c =
     let a = c.args.self.now in
-    kept_after (record { pass = a.pass; port = a.port }) c.take.new.pass c.took.new.self Moved a.there
-    (event.Take c.args.slot, took_event (view_of (record { pass = a.pass; port = a.port })) c.args.slot c.requires c.take.new.pass c.take.result c.in-Value.value c.take.ensures c.in-Value.is)
-    (took_placed (view_of (record { pass = a.pass; port = a.port })) c.args.slot c.requires c.take.new.pass c.take.result c.in-Value.value c.take.ensures c.in-Value.is a.port c.took.new.self a.there.port c.took.ensures)
+    let stepped : HasStepped (record { pass = a.pass; port = a.port }) Moved c.take.new.pass c.took.new.self = record {
+      step = (event.Take c.args.slot, took_event (view_of (record { pass = a.pass; port = a.port })) c.args.slot c.requires c.take.new.pass c.take.result c.in-Value.value c.take.ensures c.in-Value.is);
+      is = took_placed (view_of (record { pass = a.pass; port = a.port })) c.args.slot c.requires c.take.new.pass c.take.result c.in-Value.value c.take.ensures c.in-Value.is a.port c.took.new.self a.there.port c.took.ensures;
+    } in
+    kept_after stepped a.there
 
 pub invariant_of-self-in-NotYet-clause-own : goal.invariant_of-self-in-NotYet-clause-own
 invariant_of-self-in-NotYet-clause-own c =
@@ -32,6 +34,8 @@ invariant_of-self-in-NotYet-clause-own c =
 pub invariant_of-self-in-NotYet-clause-there : goal.invariant_of-self-in-NotYet-clause-there
 invariant_of-self-in-NotYet-clause-there c =
     let a = c.args.self.now in
-    kept_after (record { pass = a.pass; port = a.port }) c.take.new.pass a.port NotYet a.there
-    (missed_wait (view_of (record { pass = a.pass; port = a.port })) c.args.slot c.requires c.take.new.pass c.take.result c.take.ensures c.in-NotYet.is)
-    (missed_placed (view_of (record { pass = a.pass; port = a.port })) c.args.slot c.requires c.take.new.pass c.take.result c.take.ensures c.in-NotYet.is a.port a.there.port)
+    let stepped : HasStepped (record { pass = a.pass; port = a.port }) NotYet c.take.new.pass a.port = record {
+      step = missed_wait (view_of (record { pass = a.pass; port = a.port })) c.args.slot c.requires c.take.new.pass c.take.result c.take.ensures c.in-NotYet.is;
+      is = missed_placed (view_of (record { pass = a.pass; port = a.port })) c.args.slot c.requires c.take.new.pass c.take.result c.take.ensures c.in-NotYet.is a.port a.there.port;
+    } in
+    kept_after stepped a.there
