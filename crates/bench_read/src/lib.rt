@@ -4,6 +4,12 @@
 //! List text: a line outside its comment is blank, or it is the name of a gate, with blanks around.
 //! No gate is named twice. In a list of stuck faults it is the name of a signal, then `0` or `1`, and
 //! then perhaps `-`. The formats are this project's profile.
+//!
+//! ```
+//! let net = read_bench(alloc, b"INPUT(a)\nOUTPUT(z)\nz = NOT(a)\n")?; // signal 0 is `a`, signal 1 is `z`
+//! let refusal = read_bench(alloc, b"z = NOT(a)\n").err(); // BenchNo::Undriven, with `a` and line 1
+//! let faults = read_faults(alloc, b"a 0\nz 1\n", &net)?; // `a` stuck at 0, and `z` at 1
+//! ```
 #![tactic(auto)]
 
 mod draft;

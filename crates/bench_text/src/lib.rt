@@ -7,6 +7,10 @@
 //! in it. Square brackets and semicolons are this project's profile, for memories.
 //!
 //! What stands in a line of such a text: its marks and names, and the form that they spell.
+//!
+//! ```
+//! let read = tokens(alloc, b"z = NOT(a)\n")?; // `read.list` has `z`, `=`, `NOT`, `(`, `a` and `)`, by their places
+//! ```
 #![tactic(auto)]
 
 mod class;

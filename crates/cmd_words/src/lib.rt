@@ -1,4 +1,8 @@
 //! The words of a command line, and the command that they ask for.
+//!
+//! ```
+//! let command = read_words(alloc, words)?; // of `show c17.bench`: Command::Show with this name
+//! ```
 #![tactic(auto)]
 
 mod command;

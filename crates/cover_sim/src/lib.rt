@@ -1,5 +1,10 @@
 //! Coverage: which values each signal of a netlist has, and which changes it makes, at the ends of the cycles of
 //! the reference simulation; and the lines of that.
+//!
+//! ```
+//! let marks = cover(alloc, &net, &ranks, &timing, &stim)?; // whether each signal was 0, was 1, rose and fell
+//! let lines = cover_lines(alloc, &net, marks.as_slice())?; // of `z` that did all four: "z 01rf\n"
+//! ```
 #![tactic(auto)]
 
 ghost use Rattle.std.specs.Prelude.{IfOk};

@@ -41,6 +41,13 @@
 //!
 //! No contract says that a member ever moves, that two threads ran at once, or how long anything takes: where
 //! members wait for what never comes, `run_all` doesn't return.
+//!
+//! ```
+//! let worker = Worker { members, gate: Some(CountGate::new()) }; // `members` is a list of steppers
+//! let mut workers = List::new(alloc);
+//! add(&mut workers, worker)?;
+//! run_all(&rt, workers.as_mut_slice()); // now each member is done, and each gate was told of its worker's turns
+//! ```
 #![tactic(auto)]
 
 mod count_gate;

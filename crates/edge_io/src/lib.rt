@@ -1,5 +1,12 @@
 //! Whole reads and whole writes over a store of files and a sink for bytes, each a trait, with
 //! implementations over memory and over the host.
+//!
+//! ```
+//! let mut files = HostFiles::new(&rt);
+//! let bytes = read_file(alloc, &mut files, b"c17.bench", 1_000_000)?; // ReadNo::TooLong if there are more
+//! let mut out = HostSink::new(rt.stdout());
+//! let wrote = write_whole(&mut out, bytes.as_slice()); // Ok(()): all of them
+//! ```
 #![tactic(auto)]
 
 mod counts;

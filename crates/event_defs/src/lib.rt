@@ -6,6 +6,12 @@
 //! come: the banks of words of each send, 1 to 8, the last turn that the ports execute, and the ports in the order
 //! in which they step, which is any order. And the sends of an image in one row, port after port: how many come
 //! before each port, and for each receipt the number of the send that it comes from.
+//!
+//! ```
+//! let firsts = first_sends(alloc, &image)?; // [0, 1, 2], where each of two ports sends once
+//! let sources = sources_of(alloc, &image, firsts.as_slice(), 1)?; // [0]: port 1 takes what port 0 sends
+//! steps_are_sound(); // a law: it lets a proof know that the state is sound, whatever the order of the steps
+//! ```
 #![tactic(auto)]
 
 pub mod law;

@@ -1,5 +1,9 @@
 //! What `help` prints: of all commands in brief, or of one command. The options of each are those of the list that the
 //! reader of words goes by.
+//!
+//! ```
+//! let text = help_text(alloc, &Some(Topic::Fault))?; // what `yse help fault` prints
+//! ```
 #![tactic(auto)]
 
 mod brief;

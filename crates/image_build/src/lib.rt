@@ -1,5 +1,10 @@
 //! Builds an image: fixed programs for the ports of a machine and fixed links between them, for items
 //! at their homes in their slots.
+//!
+//! ```
+//! let image = build(alloc, &nodes, &homes, &plan, &switch, &timing)?;
+//! // c17 on two logic processors: four ports, the array processor and the host among them, and 8 slots
+//! ```
 #![tactic(auto)]
 
 mod array;

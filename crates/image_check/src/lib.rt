@@ -1,6 +1,11 @@
 //! Images that come from elsewhere: an image with its claims, which say of each of its places which item
 //! of a netlist stands there, and the check whether it matches the items. What the check says, and
 //! where, is in `specs/`.
+//!
+//! ```
+//! let checked = check_image(alloc, &file, &nodes, &timing); // Ok(()) where each place is as the item that it claims
+//! // Err(CheckNo::Place { port: 0, slot: 3 }): there it isn't
+//! ```
 #![tactic(auto)]
 
 mod check;

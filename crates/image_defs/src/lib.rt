@@ -4,6 +4,11 @@
 //! netlist: each item of a port claims an item of the netlist, and is computed from what its operands claim. What
 //! an image that matches gives at a place is the value of the item that the place claims, whether the image was
 //! built or comes from elsewhere.
+//!
+//! ```
+//! ensures only { IsWellFormed file.now.image → Matches file.now.image (lists_of file.now.claims) nodes.now timing.now
+//!     → IsOkOrMemory result } // of `check_image`: an image that matches isn't refused
+//! ```
 #![tactic(auto)]
 
 mod file;

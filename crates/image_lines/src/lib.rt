@@ -3,6 +3,11 @@
 //! A line has tokens with exactly one space between, and numbers have no leading zeros. Its first token
 //! says what it is: a head of the text or of a port, a part of a port, or the end. A line with a number
 //! that is too large has its form all the same, and is told to be out of range.
+//!
+//! ```
+//! let (line, in_range) = read_line(alloc, b"take 1 0")?; // Line::Take(LinkIn { slot: 1, sender: 0 }), and true
+//! push_take(&mut text, &LinkIn { slot: 1, sender: 0 })?; // adds "take 1 0\n"
+//! ```
 #![tactic(auto)]
 
 mod fields;

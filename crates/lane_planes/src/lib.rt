@@ -1,4 +1,10 @@
 //! The values of all lanes in two words, and the gates and tables that work on all of them at once.
+//!
+//! ```
+//! let planes = with_lane(in_all_lanes(V4::Zero), 7, V4::One); // 1 in lane 7, and 0 in the other 29
+//! let answers = gate_two(pair_form(Kind::Nand), planes, in_all_lanes(V4::One)); // in all lanes at once
+//! let value = lane(answers, 7); // V4::Zero
+//! ```
 #![tactic(auto)]
 
 mod formula;

@@ -1,5 +1,9 @@
 //! The limits of netlists, stimuli, texts and machines that this project's profile sets, each stated
 //! once. The law of the module `law` says each number in digits.
+//!
+//! ```
+//! let fits = fits_text(MAX_TEXT_BYTES); // true: 67,108,864 bytes are read, and one more is too many
+//! ```
 #![tactic(auto)]
 
 pub mod law;

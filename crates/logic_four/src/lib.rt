@@ -1,5 +1,10 @@
 //! The four values of a signal, the kinds of gates, and what each kind answers for a list of
 //! operands. The memory act, which has no code here, is defined beside them for the crates above.
+//!
+//! ```
+//! let value = gate(Kind::Nand, &[V4::Zero, V4::Undef]); // V4::One: a 0 decides
+//! let settled = settle(V4::HighZ); // V4::Undef
+//! ```
 #![tactic(auto)]
 
 mod folds;

@@ -3,6 +3,13 @@
 //! there, they go on with the next block. The rows of a block are written before the next is begun: so a run
 //! keeps the printed cells of one block and no more, however many cycles it has, and its first rows are
 //! written while later ones are still to be computed.
+//!
+//! ```
+//! let mut gates = count_gates(alloc, 4)?;
+//! let division = Division { banks: 1, workers: 4 };
+//! let wrote = run_blocks(&rt, alloc, &net, &image, &stim, division, gates.as_mut_slice(), &mut out)?;
+//! // Ok(()): `out` took the trace, and each gate was told of the turns of its worker's ports
+//! ```
 #![tactic(auto)]
 
 mod blocks;

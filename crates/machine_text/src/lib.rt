@@ -7,6 +7,11 @@
 //! A text whose first line that is not blank is `version 2` may also have the word `nodes`, and a
 //! port between `functions`, `nodes` or `bits` and its number: the limit of that port, in place of
 //! the limit of all ports.
+//!
+//! ```
+//! let machine = read_machine(alloc, b"logic 2\nslots 7\n")?; // and one array processor, as by default
+//! let refusal = read_machine(alloc, b"logic 2\nlogic 3\n").err(); // MachNo::Twice { line: 2 }
+//! ```
 #![tactic(auto)]
 
 mod digits;

@@ -1,5 +1,11 @@
 //! The files that a request names: each is begun, read and checked, one step of a call for each; and the checks of what
 //! was read. What a step lets pass goes on, and a refusal ends the call.
+//!
+//! ```
+//! let net = netlist_in(alloc, &mut files, b"c17.bench")?; // or Refusal::ReadFault, or Refusal::Netlist
+//! let stim = stimulus_in(alloc, &mut files, b"c17.stim", &net)?; // five values a row
+//! let ready = ready_on_machine(alloc, &mut files, &words)?; // what the words of a run name, compiled
+//! ```
 #![tactic(auto)]
 
 mod checks;

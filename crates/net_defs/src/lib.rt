@@ -1,6 +1,11 @@
 //! Netlists, timing, stimuli and rows of values, and the reference definitions: what a simulation
 //! of a netlist is, and which text is its trace. The definitions are in `specs/`; they know no
 //! order in which gates are evaluated.
+//!
+//! ```
+//! ensures simulated { OnOk result (HasOneSimulation net.now timing.now stim.now) } // of `refer`
+//! let text = show(alloc, &net)?; // the canonical text of c17: "INPUT(1)\n", .., "23 = NAND(16, 19)\n"
+//! ```
 #![tactic(auto)]
 
 mod canonical;

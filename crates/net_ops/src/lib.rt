@@ -1,6 +1,14 @@
 //! One turn of a netlist as operations on places, in one lane or in many at once. What is made once before a
 //! run, the state before the first turn, and a turn, in which signals may be stuck at a value. The reference
 //! simulation is this of a single value a place, and the runs of faults side by side are this of many.
+//!
+//! ```
+//! let schedule = make_schedule::<V4>(alloc, &net, &timing, ranks.order.as_slice())?;
+//! let mut ports = make_ports(alloc, &net)?;
+//! let mut state = initial_state::<V4>(alloc, &net, &timing, 1)?;
+//! run_cycle(&mut state, &mut ports, &net, &timing, &schedule, &(), inputs, true);
+//! let row = state.row(&net); // the value of each signal at the end of the first cycle
+//! ```
 #![tactic(auto)]
 
 mod bases;

@@ -2,6 +2,11 @@
 //! output, a register, and each gate of at most four operands is one item; a wider gate is several. Each item has
 //! one value a turn. The definitions, which items are those of a netlist and which values they have, are in
 //! `specs/`.
+//!
+//! ```
+//! ensures items { IfOk result (AreItems net.now timing.now) } // of `map_nodes`
+//! let helpers = helper_count(17); // 7: 17 operands make five groups, and these make two
+//! ```
 #![tactic(auto)]
 
 mod groups;

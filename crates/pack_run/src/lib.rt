@@ -4,6 +4,13 @@
 //! To run an image on lanes, make its packed crossbar, pair each pass with the `PackPort` of its number, and
 //! hand each `PackRunning` with the crossbar to a crew as a `PackSeated`. Once all have made all turns the
 //! host has the cells of all cycles of the longest lane. That they get done no contract says.
+//!
+//! ```
+//! let (bar, passes) = PackBar::make(&rt, alloc, &image, &lanes)?;
+//! let port = PackPort::new(alloc, &image, &lanes, pass.port())?; // for each of these passes
+//! let run = PackRunning::new(pass, port);
+//! let seated = PackSeated { bar: &bar, run }; // a member of a crew
+//! ```
 #![tactic(auto)]
 
 pub mod law;

@@ -2,6 +2,11 @@
 //! plan says at which port each item is, and in which slot of a turn. The definitions are in `specs/`: which homes
 //! are homes of these items, which ports read an item, the first-fit plan, when a design fits a machine, and the
 //! settings of the switch. Sets of slots are kept in rows of bits.
+//!
+//! ```
+//! ensures plan { IfOk result (IsFirstFitPlan nodes.now homes.now) } // of `first_fit`
+//! let readers = Readers::new(alloc, &nodes, &homes)?; // `readers.of(6)` are the ports that item 6 is sent to
+//! ```
 #![tactic(auto)]
 
 mod bit_rows;

@@ -9,6 +9,13 @@
 //! hand each `Running` with the crossbar to a crew as a `Seated`. Once all have made the turns of their block
 //! the host has the rows of its cycles, and when all have gone on they are run again. That they get done no
 //! contract says.
+//!
+//! ```
+//! let (bar, passes) = Crossbar::make(&rt, alloc, &image, &stim, 1)?;
+//! let port = AnyPort::new(alloc, &image, &stim, pass.port(), 4096)?; // for each of these passes
+//! let run = Running::new(pass, port);
+//! let seated = Seated { bar: &bar, run }; // a member of a crew
+//! ```
 #![tactic(auto)]
 
 pub mod law;

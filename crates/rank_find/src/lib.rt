@@ -1,5 +1,10 @@
 //! An order of the gates of a netlist in which each comes after the gates that it waits for, with
 //! the rank of each gate; or a loop of gates that wait for one another.
+//!
+//! ```
+//! // c = NOT(d), d = NOT(e) and e = AND(a, b): signals 2, 3 and 4, behind the inputs.
+//! let ranks = rank(alloc, &net, &timing)?; // the order 4, 3, 2 and the ranks 0, 0, 2, 1, 0; or RankNo::Loop
+//! ```
 #![tactic(auto)]
 
 ghost use Rattle.std.specs.Prelude.{◌≡◌, ◌≢◌, ◌<◌, ◌≤◌, ◌^◌, List as Items, ℕ, length, IfOk, IfErr, OnOk};

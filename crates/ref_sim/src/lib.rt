@@ -1,5 +1,9 @@
 //! The reference simulation: the printed values of each cycle of a netlist under a stimulus, in rank
 //! order, in unit delay or in mixed mode.
+//!
+//! ```
+//! let rows = refer(alloc, &net, &timing, &stim)?; // c17 under 11111, 00000 and xxxxx: 10, 00 and xx
+//! ```
 #![tactic(auto)]
 
 ghost use Rattle.std.specs.Prelude.{◌≡◌, ◌≢◌, List as Items, ℕ, IfOk, IfErr, OnOk};

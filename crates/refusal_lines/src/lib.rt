@@ -1,5 +1,10 @@
 //! Why a call did not end well: each refusal, with the status and the line of it. A line is written in pieces, without
 //! taking memory.
+//!
+//! ```
+//! let status = refuse(&mut err, of_machine(MachNo::Range { line: 2 })); // Status::Machine, whose number is 6
+//! // `err` took "machine: line 2: out of range\n"
+//! ```
 #![tactic(auto)]
 
 mod diagnostics;

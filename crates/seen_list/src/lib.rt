@@ -1,5 +1,12 @@
 //! Lists and texts that a contract sees as a list of values and a list of bytes, whatever holds
 //! them in memory, so that lists inside structs inside lists are seen whole.
+//!
+//! ```
+//! let mut list = List::new(alloc);
+//! list.push(7)?; // or `Memory`, which leaves the list as it was
+//! let items = list.as_slice(); // [7], and a contract sees the same of `list`
+//! let text = Text::from_bytes(alloc, b"c17")?;
+//! ```
 #![tactic(auto)]
 
 mod list;

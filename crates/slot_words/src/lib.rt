@@ -25,6 +25,14 @@
 //! a well-formed image computes from its stimulus, and no others: a `put` is asked to put that value.
 //!
 //! No contract says that a thread ever moves, which of two threads is first, or how fast either is.
+//!
+//! ```
+//! let (bar, passes) = Crossbar::make(&rt, alloc, &image, &stim, 1)?; // the words, and one pass for each port
+//! bar.put(&mut pass, 0, V4::One); // the value of this turn in slot 0, by the pass of its sender
+//! let taken = bar.take(&mut other, 0); // Taken::Value(V4::One), and before that Taken::NotYet
+//! bar.tell(&mut pass); // the turn is over
+//! let turns = bar.ask(&mut pass, 0); // how many turns port 0 has finished
+//! ```
 #![tactic(auto)]
 
 mod crossbar;

@@ -16,6 +16,12 @@
 //! each line is blank outside its comment. There are at most `LANES` lanes, each with cycles of its own.
 //!
 //! All three formats are this project's profile.
+//!
+//! ```
+//! let stim = read_stim(alloc, b"10101 * 2\n0x01z\n", 5)?; // three cycles of five inputs
+//! let lanes = read_lanes(alloc, b"lane\n11111\nlane\n00000\n", 5)?; // two stimuli of one cycle each
+//! let order = read_order(alloc, b"3 * 1000\n", 4)?; // 1,000 steps of port 3 of four
+//! ```
 #![tactic(auto)]
 
 pub mod lane_law;

@@ -1,4 +1,10 @@
 //! The values of 256 lanes in two vectors of words, and the gates that work on all of them at once.
+//!
+//! ```
+//! let planes = with_lane(in_all_lanes(V4::Zero), 200, V4::One); // 1 in lane 200, and 0 in the other 255
+//! let answers = gate_two(Kind::Nand, planes, in_all_lanes(V4::One)); // in all lanes at once
+//! let value = lane(answers, 200); // V4::Zero
+//! ```
 #![tactic(auto)]
 
 mod gates;

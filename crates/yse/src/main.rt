@@ -1,4 +1,12 @@
 //! The program: real files, streams and gates around the top call, whose status is the exit status.
+//!
+//! ```
+//! $ yse run c17.bench c17.stim
+//! cycle 22 23
+//! 1 10
+//! 2 00
+//! 3 xx
+//! ```
 #![tactic(auto)]
 
 #[cfg(test)]

@@ -1,5 +1,10 @@
 //! The commands: a function for each, which follows its chain of checks and answers its output or its refusal, one
 //! module for each.
+//!
+//! ```
+//! let mut output = refer(alloc, &mut files, &words)?; // or the refusal of the first check that refuses
+//! let wrote = write_output(&mut out, &mut output); // Ok(()): `out` took "cycle 22 23\n", "1 10\n" and so on
+//! ```
 #![tactic(auto)]
 
 mod compile;

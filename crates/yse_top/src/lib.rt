@@ -1,4 +1,9 @@
 //! The whole program over any store of files and any sinks.
+//!
+//! ```
+//! let status = yse(&rt, alloc, words, &mut files, &mut out, &mut err, gates.as_mut_slice());
+//! // of `refer c17.bench c17.stim`: Status::Done, and `out` took "cycle 22 23\n1 10\n2 00\n3 xx\n"
+//! ```
 #![tactic(auto)]
 
 ghost use Rattle.std.specs.Prelude.{◌≡◌, ◌≢◌, ◌≤◌, ◌↔◌, ℕ, List, None, map, length};
