@@ -1,7 +1,7 @@
 //! The words of a command line, and the command that they ask for.
 //!
 //! ```
-//! let command = read_words(alloc, words)?; // of `show c17.bench`: Command::Show with this name
+//! let command = read_words(alloc, words)?; // of `show c17.bench`: Command::Show, whose `netlist` is c17.bench
 //! ```
 #![tactic(auto)]
 

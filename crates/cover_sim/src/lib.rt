@@ -3,7 +3,7 @@
 //!
 //! ```
 //! let marks = cover(alloc, &net, &ranks, &timing, &stim)?; // whether each signal was 0, was 1, rose and fell
-//! let lines = cover_lines(alloc, &net, marks.as_slice())?; // of `z` that did all four: "z 01rf\n"
+//! let lines = cover_lines(alloc, &net, marks.as_slice())?; // "z 01rf\n" for a `z` that did all four, and so on
 //! ```
 #![tactic(auto)]
 

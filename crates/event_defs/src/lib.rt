@@ -10,7 +10,7 @@
 //! ```
 //! let firsts = first_sends(alloc, &image)?; // [0, 1, 2], where each of two ports sends once
 //! let sources = sources_of(alloc, &image, firsts.as_slice(), 1)?; // [0]: port 1 takes what port 0 sends
-//! steps_are_sound(); // a law: it lets a proof know that the state is sound, whatever the order of the steps
+//! steps_are_sound(); // a law: a proof has from here on that every order of steps leaves a sound state
 //! ```
 #![tactic(auto)]
 

@@ -3,7 +3,7 @@
 //! threads. The lines of the verdicts are made here too.
 //!
 //! ```
-//! let verdicts = fault_all(&rt, alloc, &net, &ranks, &timing, &stim, 4)?; // by four workers
+//! let verdicts = fault_all(&rt, alloc, &net, &ranks, &timing, &stim, 4)?; // where each is first seen; by four workers
 //! let faults = all_faults(alloc, &net)?; // stuck at 0 and stuck at 1, for each signal
 //! let lines = fault_lines(alloc, &net, faults.as_slice(), verdicts.as_slice())?;
 //! // c17 under 11111 and 00000: "1 0 1 22\n" (input 1, at 0, in cycle 1, at 22), .., "detected 13 of 22\n"

@@ -3,8 +3,8 @@
 //! where, is in `specs/`.
 //!
 //! ```
-//! let checked = check_image(alloc, &file, &nodes, &timing); // Ok(()) where each place is as the item that it claims
-//! // Err(CheckNo::Place { port: 0, slot: 3 }): there it isn't
+//! let checked = check_image(alloc, &file, &nodes, &timing); // Ok(()): each place is as the item that it claims
+//! // or CheckNo::Place { port: 0, slot: 3 }: this one isn't
 //! ```
 #![tactic(auto)]
 

@@ -7,7 +7,7 @@
 //!
 //! ```
 //! ensures only { IsWellFormed file.now.image → Matches file.now.image (lists_of file.now.claims) nodes.now timing.now
-//!     → IsOkOrMemory result } // of `check_image`: an image that matches isn't refused
+//!     → IsOkOrMemory result } // a clause of `check_image` in `image_check`
 //! ```
 #![tactic(auto)]
 

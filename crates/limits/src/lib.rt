@@ -2,7 +2,7 @@
 //! once. The law of the module `law` says each number in digits.
 //!
 //! ```
-//! let fits = fits_text(MAX_TEXT_BYTES); // true: 67,108,864 bytes are read, and one more is too many
+//! let fits = fits_text(MAX_TEXT_BYTES); // true: 67,108,864 bytes may be read, and one more is too many
 //! ```
 #![tactic(auto)]
 

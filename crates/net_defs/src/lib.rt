@@ -3,7 +3,7 @@
 //! order in which gates are evaluated.
 //!
 //! ```
-//! ensures simulated { OnOk result (HasOneSimulation net.now timing.now stim.now) } // of `refer`
+//! ensures simulated { OnOk result (HasOneSimulation net.now timing.now stim.now) } // a clause of `refer` in `ref_sim`
 //! let text = show(alloc, &net)?; // the canonical text of c17: "INPUT(1)\n", .., "23 = NAND(16, 19)\n"
 //! ```
 #![tactic(auto)]

@@ -3,10 +3,10 @@
 //! simulation is this of a single value a place, and the runs of faults side by side are this of many.
 //!
 //! ```
-//! let schedule = make_schedule::<V4>(alloc, &net, &timing, ranks.order.as_slice())?;
+//! let schedule = make_schedule::<V4>(alloc, &net, &timing, ranks.order.as_slice())?; // in rank order
 //! let mut ports = make_ports(alloc, &net)?;
-//! let mut state = initial_state::<V4>(alloc, &net, &timing, 1)?;
-//! run_cycle(&mut state, &mut ports, &net, &timing, &schedule, &(), inputs, true);
+//! let mut state = initial_state::<V4>(alloc, &net, &timing, 1)?; // of one lane
+//! run_cycle(&mut state, &mut ports, &net, &timing, &schedule, &(), inputs, true); // `true`: it is the first one
 //! let row = state.row(&net); // the value of each signal at the end of the first cycle
 //! ```
 #![tactic(auto)]

@@ -1,8 +1,7 @@
 //! Packed ports that run beside one another over a packed crossbar: each by itself takes its next event, one
 //! load or one store of one shared word at a time, which is that event in all lanes at once.
 //!
-//! To run an image on lanes, make its packed crossbar, pair each pass with the `PackPort` of its number, and
-//! hand each `PackRunning` with the crossbar to a crew as a `PackSeated`. Once all have made all turns the
+//! To run an image on lanes, hand the ports of all passes to a crew, as below. Once all have made all turns the
 //! host has the cells of all cycles of the longest lane. That they get done no contract says.
 //!
 //! ```

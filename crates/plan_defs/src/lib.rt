@@ -4,8 +4,8 @@
 //! settings of the switch. Sets of slots are kept in rows of bits.
 //!
 //! ```
-//! ensures plan { IfOk result (IsFirstFitPlan nodes.now homes.now) } // of `first_fit`
-//! let readers = Readers::new(alloc, &nodes, &homes)?; // `readers.of(6)` are the ports that item 6 is sent to
+//! ensures plan { IfOk result (IsFirstFitPlan nodes.now homes.now) } // a clause of `first_fit` in `slot_plan`
+//! let readers = Readers::new(alloc, &nodes, &homes)?; // readers.of(6) is [0]: gate 11 of c17 goes to port 0
 //! ```
 #![tactic(auto)]
 

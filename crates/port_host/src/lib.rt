@@ -4,8 +4,9 @@
 //! ```
 //! let mut host = HostPort::new(alloc, &image, &stim, 4096)?; // with room for the rows of 4,096 cycles
 //! host.begin_turn();
-//! let value = host.execute(0); // c17 under 11111: V4::One, of the first input
-//! let cells = host.cells(1); // once the turns of cycle 1 are over: 1 and 0
+//! let value = host.execute(0); // V4::One: input `a`, where the first row is 1
+//! host.receive(1, V4::Zero); // `z = NOT(a)`, which is printed
+//! host.end_turn(); // cycle 1 is over, and `host.cells(1)` is [V4::Zero]
 //! ```
 #![tactic(auto)]
 

@@ -2,10 +2,11 @@
 //! thirty at once.
 //!
 //! ```
-//! let mut port = LogicPort::<V4>::new(alloc, &image, &stim, 0)?; // it has c17's gate 10 in slot 3
+//! let mut port = LogicPort::<V4>::new(alloc, &image, &stim, 0)?; // of `z = NOT(a)`, which it has in slot 1
 //! port.begin_turn();
-//! port.receive(0, V4::One); // input 1; and so input 2 in slot 1, and input 3 in slot 2
-//! let value = port.execute(3); // V4::Zero, NAND of inputs 1 and 3
+//! port.receive(0, V4::One); // `a`, from the host
+//! let value = port.execute(1); // V4::Zero, for `z`
+//! port.end_turn();
 //! ```
 #![tactic(auto)]
 

@@ -5,10 +5,9 @@
 //! Turns make a cycle, and cycles make a block: a port runs one block after the other, each of at most as many
 //! cycles as its window, and rests at the end of each until `go_on`.
 //!
-//! To run an image, make its crossbar, pair each pass with the `AnyPort` of its number, all of one window, and
-//! hand each `Running` with the crossbar to a crew as a `Seated`. Once all have made the turns of their block
-//! the host has the rows of its cycles, and when all have gone on they are run again. That they get done no
-//! contract says.
+//! To run an image, hand the ports of all passes to a crew, as below, all of one window. Once all have made the
+//! turns of their block the host has the rows of its cycles, and when all have gone on they are run again. That
+//! they get done no contract says.
 //!
 //! ```
 //! let (bar, passes) = Crossbar::make(&rt, alloc, &image, &stim, 1)?;

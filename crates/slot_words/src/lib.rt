@@ -16,22 +16,22 @@
 //! (`Crossbar`), and packed words the planes of all lanes with `k` modulo 16 (`pack_words`).
 //!
 //! To share words under this rule in another project, say who sends to whom in which slot of a turn, and
-//! what, as the links and the work of an image. `Crossbar::make` gives the words and one `Pass` for each port. Lend the crossbar
-//! to all threads, and move each pass to the thread that is to run its port. In each turn a port puts each
-//! of its sends once, takes each of its receipts once, in any order that suits it, and tells that the turn
-//! is over. Before a put in a turn `k` greater than `banks` it asks each reader of the send until it knows
-//! it to have finished turn `k - banks`; a `take` that finds nothing yet is tried again. All this is asked
-//! by the contracts, so a program that breaks it doesn't check. So what is shared under it are the values that
-//! a well-formed image computes from its stimulus, and no others: a `put` is asked to put that value.
+//! what, as the links and the work of an image. Lend the crossbar to all threads, and move each pass to the
+//! thread that is to run its port. In each turn a port puts each of its sends once, takes each of its
+//! receipts once, in any order that suits it, and tells that the turn is over. Before a put in a turn `k`
+//! greater than `banks` it asks each reader of the send until it knows it to have finished turn `k - banks`;
+//! a `take` that finds nothing yet is tried again. All this is asked by the contracts, so a program that
+//! breaks it doesn't check. So what is shared under it are the values that a well-formed image computes from
+//! its stimulus, and no others: a `put` is asked to put that value.
 //!
 //! No contract says that a thread ever moves, which of two threads is first, or how fast either is.
 //!
 //! ```
 //! let (bar, passes) = Crossbar::make(&rt, alloc, &image, &stim, 1)?; // the words, and one pass for each port
-//! bar.put(&mut pass, 0, V4::One); // the value of this turn in slot 0, by the pass of its sender
-//! let taken = bar.take(&mut other, 0); // Taken::Value(V4::One), and before that Taken::NotYet
-//! bar.tell(&mut pass); // the turn is over
-//! let turns = bar.ask(&mut pass, 0); // how many turns port 0 has finished
+//! bar.put(&mut host, 0, V4::One); // what the sender has in slot 0 in this turn, by the sender's pass
+//! let taken = bar.take(&mut port, 0); // Taken::Value(V4::One); before the put it was Taken::NotYet
+//! bar.tell(&mut port); // once all puts and takes of its turn are made
+//! let turns = bar.ask(&mut host, 0); // 1: port 0 has finished so many turns
 //! ```
 #![tactic(auto)]
 
