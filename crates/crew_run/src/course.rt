@@ -7,7 +7,7 @@ use crate::phase::Progress;
 const MOST_VISITS: usize = 65_536;
 
 /// The most members of all workers together that the calling thread goes round.
-const MOST_SEATS: usize = 256;
+const MOST_MEMBERS: usize = 256;
 
 /// Which lap is written down. In the ones before it members may make steps that they need only once.
 const WRITTEN_LAP: u32 = 3;
@@ -42,8 +42,8 @@ impl Visit {
 /// made.
 #[derive(Drop)]
 pub struct Course {
-    seats: [Visit; MOST_SEATS],
-    seated: usize,
+    members: [Visit; MOST_MEMBERS],
+    member_count: usize,
     is_short: bool,
     goal: u64,
     laps: u32,
@@ -63,8 +63,8 @@ impl Course {
             steps: 0,
         };
         Course {
-            seats: [none; MOST_SEATS],
-            seated: 0,
+            members: [none; MOST_MEMBERS],
+            member_count: 0,
             is_short: false,
             goal: 0,
             laps: 0,
@@ -83,32 +83,32 @@ impl Course {
     }
 
     /// Puts a member at the end of the round, given by its worker's place and its own.
-    pub fn seat(&mut self, worker: usize, member: usize) {
-        if self.seated >= MOST_SEATS {
+    pub fn join(&mut self, worker: usize, member: usize) {
+        if self.member_count >= MOST_MEMBERS {
             self.is_short = true;
             return;
         }
-        self.seats[self.seated] = Visit {
+        self.members[self.member_count] = Visit {
             worker: (worker % 0x1_0000) as u16,
             member: (member % 0x100) as u8,
             steps: 0,
         };
-        self.seated += 1;
+        self.member_count += 1;
     }
 
-    /// Whether there are more members than it has seats.
+    /// Whether there are more members than it has room for.
     pub fn is_short(&self) -> bool {
         self.is_short
     }
 
     /// How many members a round has.
-    pub fn seated(&self) -> usize {
-        self.seated
+    pub fn member_count(&self) -> usize {
+        self.member_count
     }
 
     /// Member number `v` of a round.
-    pub fn seat_at(&self, v: usize) -> Visit {
-        self.seats[v % MOST_SEATS]
+    pub fn member_at(&self, v: usize) -> Visit {
+        self.members[v % MOST_MEMBERS]
     }
 
     /// How many of the visits are to be made before the next round.
@@ -129,12 +129,12 @@ impl Course {
         }
     }
 
-    /// Writes a visit of up to 64 steps of a seat down, where it belongs to the lap that is written down.
-    pub fn add(&mut self, seat: Visit, steps: u64) {
+    /// Writes a visit of up to 64 steps of a member down, where it belongs to the lap that is written down.
+    pub fn add(&mut self, member: Visit, steps: u64) {
         if self.laps == WRITTEN_LAP && steps > 0 && self.len < MOST_VISITS {
             self.visits[self.len] = Visit {
                 steps: (steps % 0x100) as u8,
-                ..seat
+                ..member
             };
             self.len += 1;
             self.lap_steps = self.lap_steps.saturating_add(steps);

@@ -32,18 +32,18 @@ fn visit<S: Stepper, G: Gate, P: Pace>(
 /// The same of a member, where its worker is there.
 fn visit_one<S: Stepper, G: Gate, P: Pace>(
     workers: &mut [Worker<S, G>],
-    seat: Visit,
+    member: Visit,
     steps: u32,
     pace: &P,
 ) -> Progress
     requires { (i : ℕ) (w : Worker S G) → slice_get workers.old i ≡ Some w → CanResume S.Stepper.own G.Gate.own w }
     ensures { Each (IsResumed S.Stepper.own G.Gate.own) workers.old workers.new }
 {
-    let i = seat.worker();
+    let i = member.worker();
     if i >= workers.len() {
         return Progress::none();
     }
-    visit(&mut workers[i], seat.member(), steps, pace)
+    visit(&mut workers[i], member.member(), steps, pace)
 }
 
 /// One round: each member goes towards the turn to which they go.
@@ -53,10 +53,10 @@ fn visit_all<S: Stepper, G: Gate>(workers: &mut [Worker<S, G>], course: &mut Cou
 {
     let mut round = Progress::none();
     let goal = UpTo(course.goal());
-    'seats: for v in 0..course.seated() {
-        let seat = course.seat_at(v);
-        let steps = visit_one(workers, seat, STEPS_A_ROUND, &goal);
-        course.add(seat, steps.moved);
+    'members: for v in 0..course.member_count() {
+        let member = course.member_at(v);
+        let steps = visit_one(workers, member, STEPS_A_ROUND, &goal);
+        course.add(member, steps.moved);
         round = round.and(steps);
     }
     round
@@ -73,26 +73,26 @@ fn revisit_all<S: Stepper, G: Gate>(workers: &mut [Worker<S, G>], course: &Cours
     }
 }
 
-/// Seats the members of a worker that have this port.
-fn seat_worker<S: Stepper>(members: &[S], i: usize, port: u32, course: &mut Course) {
+/// The members of a worker that have this port join the round.
+fn join_of_worker<S: Stepper>(members: &[S], i: usize, port: u32, course: &mut Course) {
     for k in 0..members.len() {
         if members[k].port() == port {
-            course.seat(i, k);
+            course.join(i, k);
         }
     }
 }
 
-/// Seats the members that have this port.
-fn seat_port<S: Stepper, G>(workers: &[Worker<S, G>], port: u32, course: &mut Course) {
+/// The members that have this port join the round.
+fn join_of_port<S: Stepper, G>(workers: &[Worker<S, G>], port: u32, course: &mut Course) {
     for i in 0..workers.len() {
-        seat_worker(workers[i].members.as_slice(), i, port, course);
+        join_of_worker(workers[i].members.as_slice(), i, port, course);
     }
 }
 
-/// Seats all members, from the last port to the first, whatever worker has them.
-fn seat_all<S: Stepper, G>(workers: &[Worker<S, G>], course: &mut Course) {
+/// All members join the round, from the last port to the first, whatever worker has them.
+fn join_all<S: Stepper, G>(workers: &[Worker<S, G>], course: &mut Course) {
     for port in 0..MAX_PORTS {
-        seat_port(workers, MAX_PORTS - 1 - port, course);
+        join_of_port(workers, MAX_PORTS - 1 - port, course);
     }
 }
 
@@ -104,7 +104,7 @@ pub fn run_solo<S: Stepper, G: Gate>(workers: &mut [Worker<S, G>], steps: u64)
     ensures { Each (IsResumed S.Stepper.own G.Gate.own) workers.old workers.new }
 {
     let mut course = Course::new();
-    seat_all(workers, &mut course);
+    join_all(workers, &mut course);
     if course.is_short() {
         return;
     }

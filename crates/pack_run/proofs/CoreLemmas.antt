@@ -108,8 +108,8 @@ module _ (words : List ℕ) (views : List PackView) (id p : ℕ) (old : PackView
   -- what has made all turns is done there
   done_in : HasMadeAll (pass_in table p old) → IsCoreStep l (pass_in table p old) state Done state
   done_in made =
-      let seat = member_at old.image.ports p mine.inside in
-      record { seat = seat.0; is = seat.1; step = (here (λ a. a.turn ≡ until + 1) made, refl) }
+      let port_image = member_at old.image.ports p mine.inside in
+      record { port_image = port_image.0; is = port_image.1; step = (here (λ a. a.turn ≡ until + 1) made, refl) }
 
   module _ (word number : ℕ) (new : PackView) (after_kept : IsKept packs old.image old.feed 1 (set words word number) (set views id new)) where
     abbrev now : List ℕ
@@ -134,20 +134,20 @@ module _ (words : List ℕ) (views : List PackView) (id p : ℕ) (old : PackView
       sent = λ q i link send at_word. subst (λ n. IsLaneWord l n (after.word q i 0)) (sent_found now found q i link send at_word) (has.word q i link send);
     }
 
-    module _ (seat : PortImage) (at : IsPort old.image p seat) (early : old.place.turn ≤ until) where
+    module _ (port_image : PortImage) (at : IsPort old.image p port_image) (early : old.place.turn ≤ until) where
       begun : 1 ≤ turn
-      begun = (is.sound.paced.places p seat at).begun
+      begun = (is.sound.paced.places p port_image at).begun
 
       -- ---- the core's step
 
       -- what an Ask found is what the state has
-      finished_is : (reader : ℕ) → AsksNext seat old.place 1 reader → new.last.word ≡ progress_word reader → told_in old.image words new.last.word ≡ new.last.number → state.finished reader ≡ new.last.number
+      finished_is : (reader : ℕ) → AsksNext port_image old.place 1 reader → new.last.word ≡ progress_word reader → told_in old.image words new.last.word ≡ new.last.number → state.finished reader ≡ new.last.number
       finished_is reader next at_word found =
-          let inside = asked_in old.image kept.runs.image_fits p seat at old.place 1 reader next in
+          let inside = asked_in old.image kept.runs.image_fits p port_image at old.place 1 reader next in
           is.finished reader inside ∙ turns_found words found reader inside at_word
 
       -- what a Take found says in the lane what the state's word says
-      module _ (slot : ℕ) (place : Place) (looks : Looks seat (pass_in table p old) (pass_in table p new) slot place) (found : told_in old.image words new.last.word ≡ new.last.number) where
+      module _ (slot : ℕ) (place : Place) (looks : Looks port_image (pass_in table p old) (pass_in table p new) slot place) (found : told_in old.image words new.last.word ≡ new.last.number) where
         abbrev plain : ℕ
         plain = state.word looks.next.link.sender looks.i (turn % 1)
 
@@ -167,15 +167,15 @@ module _ (words : List ℕ) (views : List PackView) (id p : ℕ) (old : PackView
 
         near : (turn ≤ stamp_of plain + 1) × (stamp_of plain ≤ turn)
         near =
-            let pace = near_sender old.image kept.runs.image_fits 1 until state.place is.sound.paced p seat at looks.next.j looks.next.link looks.i looks.source.sent looks.next.receives.is looks.source.send looks.source.same_slot in
+            let pace = near_sender old.image kept.runs.image_fits 1 until state.place is.sound.paced p port_image at looks.next.j looks.next.link looks.i looks.source.sent looks.next.receives.is looks.source.send looks.source.same_slot in
             (omega (arith, last_is, pace.0), omega (arith, last_is, pace.1))
 
-        reads : Reads old.image 1 p seat state slot plain
+        reads : Reads old.image 1 p port_image state slot plain
         reads = record {
           j = looks.next.j;
           link = looks.next.link;
           slot_is = looks.next.slot_is;
-          receives = here (λ a. ReceivesNext seat a.puts a.takes looks.next.j looks.next.link) looks.next.receives;
+          receives = here (λ a. ReceivesNext port_image a.puts a.takes looks.next.j looks.next.link) looks.next.receives;
           i = looks.i;
           sent = looks.source.sent;
           send = looks.source.send;
@@ -198,18 +198,18 @@ module _ (words : List ℕ) (views : List PackView) (id p : ℕ) (old : PackView
       -- what an event comes to
       record Comes (event : Event) : Type 0 where
         after : CoreState
-        moves : Moves old.image 1 p seat state stimulus event after
+        moves : Moves old.image 1 p port_image state stimulus event after
         stands : after.place p ≡ new.place
         has : HasWords old.image l p now after
         others : (q : ℕ) → q ≢ p → after.place q ≡ state.place q
 
-      ask_comes : (reader : ℕ) → HasAsked seat (pass_in table p old) (pass_in table p new) reader → now ≡ words → told_in old.image words new.last.word ≡ new.last.number → Comes (Ask reader)
+      ask_comes : (reader : ℕ) → HasAsked port_image (pass_in table p old) (pass_in table p new) reader → now ≡ words → told_in old.image words new.last.word ≡ new.last.number → Comes (Ask reader)
       ask_comes reader has still found =
           let same = finished_is reader has.asks.next (ap (λ (x : PackPassView). x.last.word) has.asks.is) found in
           record {
             after = record state { place = updated state.place p (after_ask (state.place p) reader (state.finished reader)) };
             moves = record {
-              next = here (λ a. AsksNext seat a 1 reader) has.asks.next;
+              next = here (λ a. AsksNext port_image a 1 reader) has.asks.next;
               moves = here (λ a. a.turn ≤ state.finished reader + 1) (subst (λ n. old.place.turn ≤ n + 1) (sym same) has.enough);
               is = refl;
             };
@@ -218,7 +218,7 @@ module _ (words : List ℕ) (views : List PackView) (id p : ℕ) (old : PackView
             others = λ q away. updated_there state.place p q (after_ask (state.place p) reader (state.finished reader)) away;
           }
 
-      take_comes : (slot : ℕ) → HasTaken seat (pass_in table p old) (pass_in table p new) slot → now ≡ words → told_in old.image words new.last.word ≡ new.last.number → Comes (Take slot)
+      take_comes : (slot : ℕ) → HasTaken port_image (pass_in table p old) (pass_in table p new) slot → now ≡ words → told_in old.image words new.last.word ≡ new.last.number → Comes (Take slot)
       take_comes slot has still found =
           let bounds = near slot (after_take old.place slot) has.looks found in
           record {
@@ -236,10 +236,10 @@ module _ (words : List ℕ) (views : List PackView) (id p : ℕ) (old : PackView
           }
 
       -- a Tell: the progress word that tells the turn afterwards is the one that was written, since it told one less
-      tell_comes : Tells seat (pass_in table p old) (pass_in table p new) → told_in old.image now new.last.word ≡ new.last.number → Comes Tell
+      tell_comes : Tells port_image (pass_in table p old) (pass_in table p new) → told_in old.image now new.last.word ≡ new.last.number → Comes Tell
       tell_comes tells found = record {
         after = record state { place = updated state.place p (after_tell (state.place p)); finished = updated state.finished p turn };
-        moves = record { next = here (λ a. TellsNext seat a) tells.next; is = refl };
+        moves = record { next = here (λ a. TellsNext port_image a) tells.next; is = refl };
         stands = placed after_tell (ap (λ (x : PackPassView). x.place) tells.is);
         has = record {
           finished = λ r inside. elim (cases_eq r p) [
@@ -266,9 +266,9 @@ module _ (words : List ℕ) (views : List PackView) (id p : ℕ) (old : PackView
         ]
 
       -- a Put: the word that has what was put afterwards is the one that was written, since it was of the turn before
-      module _ (slot : ℕ) (puts : Puts seat (pass_in table p old) (pass_in table p new) slot) (found : told_in old.image now new.last.word ≡ new.last.number) where
+      module _ (slot : ℕ) (puts : Puts port_image (pass_in table p old) (pass_in table p new) slot) (found : told_in old.image now new.last.word ≡ new.last.number) where
         send : IsSend old.image p puts.next.i puts.next.link
-        send = record { port = seat; is = at; link_is = puts.next.sends.is }
+        send = record { port = port_image; is = at; link_is = puts.next.sends.is }
 
         abbrev own : ℕ
         own = send_word old.image 1 p puts.next.i 0
@@ -284,7 +284,7 @@ module _ (words : List ℕ) (views : List PackView) (id p : ℕ) (old : PackView
         older : stamp_of (state.word p puts.next.i 0) + 1 ≡ old.place.turn
         older =
             let last = stamp_last (latest (state.place p) puts.next.link.slot) (state.word p puts.next.i) (is.sound.stamps.each p puts.next.i puts.next.link send) in
-            let missing = latest_missing (state.place p) puts.next.link.slot (here (λ a. SendsNext seat a.puts a.takes puts.next.i puts.next.link) puts.next.sends).missing in
+            let missing = latest_missing (state.place p) puts.next.link.slot (here (λ a. SendsNext port_image a.puts a.takes puts.next.i puts.next.link) puts.next.sends).missing in
             omega (arith, last, missing, begun, turn_is)
 
         put_there : word ≡ own
@@ -330,7 +330,7 @@ module _ (words : List ℕ) (views : List PackView) (id p : ℕ) (old : PackView
               i = puts.next.i;
               link = puts.next.link;
               slot_is = puts.next.slot_is;
-              sends = here (λ a. SendsNext seat a.puts a.takes puts.next.i puts.next.link) puts.next.sends;
+              sends = here (λ a. SendsNext port_image a.puts a.takes puts.next.i puts.next.link) puts.next.sends;
               ready = here (λ a. (r : ℕ) → Stands puts.next.link.readers r → a.turn ≤ known_of a r + 1) puts.next.ready;
             };
             is = refl;
@@ -340,25 +340,25 @@ module _ (words : List ℕ) (views : List PackView) (id p : ℕ) (old : PackView
           others = λ q away. updated_there state.place p q (after_put (state.place p) slot) away;
         }
 
-      made_comes : (event : Event) → Makes seat (pass_in table p old) (pass_in table p new) event → new.steps ≡ old.steps + 1 → (is_look event ≡ true → now ≡ words) → Comes event
+      made_comes : (event : Event) → Makes port_image (pass_in table p old) (pass_in table p new) event → new.steps ≡ old.steps + 1 → (is_look event ≡ true → now ≡ words) → Comes event
       made_comes (Ask reader) makes counted still = ask_comes reader makes (still refl) (subst (λ ws. told_in old.image ws new.last.word ≡ new.last.number) (still refl) (told counted))
       made_comes (Put slot) makes counted still = put_comes slot makes (told counted)
       made_comes (Take slot) makes counted still = take_comes slot makes (still refl) (subst (λ ws. told_in old.image ws new.last.word ≡ new.last.number) (still refl) (told counted))
       made_comes Tell makes counted still = tell_comes makes (told counted)
 
       -- what has to wait has to wait there
-      ask_waits : AskWaits seat (pass_in table p old) (pass_in table p new) → told_in old.image words new.last.word ≡ new.last.number → Waits old.image 1 p seat state
+      ask_waits : AskWaits port_image (pass_in table p old) (pass_in table p new) → told_in old.image words new.last.word ≡ new.last.number → Waits old.image 1 p port_image state
       ask_waits waits found =
           let same = finished_is waits.reader waits.asks.next (ap (λ (x : PackPassView). x.last.word) waits.asks.is) found in
           inl (
             waits.reader,
             record {
-              next = here (λ a. AsksNext seat a 1 waits.reader) waits.asks.next;
+              next = here (λ a. AsksNext port_image a 1 waits.reader) waits.asks.next;
               less = here (λ a. state.finished waits.reader + 1 < a.turn) (subst (λ n. n + 1 < old.place.turn) (sym same) waits.less);
             },
           )
 
-      take_waits : TakeWaits seat (pass_in table p old) (pass_in table p new) → told_in old.image words new.last.word ≡ new.last.number → Waits old.image 1 p seat state
+      take_waits : TakeWaits port_image (pass_in table p old) (pass_in table p new) → told_in old.image words new.last.word ≡ new.last.number → Waits old.image 1 p port_image state
       take_waits waits found =
           let bounds = near waits.slot old.place waits.looks found in
           inr (
@@ -391,21 +391,21 @@ module _ (words : List ℕ) (views : List PackView) (id p : ℕ) (old : PackView
         → (core : IsCoreEvent l (pass_in table p old) event (pass_in table p new) state) × IsStateIn old.image old.feed now (set views id new) l core.after
     event_in event made still =
         let counted = event_counted (pass_in table p old) event (pass_in table p new) made in
-        let comes = made_comes made.seat made.is made.early event made.makes counted still in
+        let comes = made_comes made.port_image made.is made.early event made.makes counted still in
         let core : IsCoreEvent l (pass_in table p old) event (pass_in table p new) state = record {
           after = comes.after;
-          step = record { seat = made.seat; is = made.is; step = (here (λ a. a.turn ≤ until) made.early, comes.moves) };
+          step = record { port_image = made.port_image; is = made.is; step = (here (λ a. a.turn ≤ until) made.early, comes.moves) };
           stands = comes.stands;
           shows = shown comes.after comes.has (told counted);
         } in (
           core,
           record {
-            sound = step_sound old.image stimulus 1 until kept.runs.image_fits (omega arith) state is.sound p made.seat made.is (Moved event) comes.after core.step.step;
+            sound = step_sound old.image stimulus 1 until kept.runs.image_fits (omega arith) state is.sound p made.port_image made.is (Moved event) comes.after core.step.step;
             finished = comes.has.finished;
             word = comes.has.word;
             stands = λ other q v at port. elim (at_set views id other new v at) [
               | inl t ↦
-                  let same : Some p ≡ Some q = sym (same_seat (after_kept.owned.seen p mine.inside comes.has.claimed)) ∙ (ap (λ (v : PackView). v.port) t.1 ∙ port) in
+                  let same : Some p ≡ Some q = sym (same_port_image (after_kept.owned.seen p mine.inside comes.has.claimed)) ∙ (ap (λ (v : PackView). v.port) t.1 ∙ port) in
                   let same_q : p ≡ q = cc in
                   subst (λ q. comes.after.place q ≡ v.place) same_q (comes.stands ∙ ap (λ (v : PackView). v.place) t.1)
               | inr t ↦ comes.others q (other_port other q v t.1 port t.0) ∙ is.stands other q v t.1 port
@@ -417,9 +417,9 @@ module _ (words : List ℕ) (views : List PackView) (id p : ℕ) (old : PackView
     wait_in wait still =
         let found = subst (λ ws. told_in old.image ws new.last.word ≡ new.last.number) still (told (wait_counted (pass_in table p old) (pass_in table p new) wait)) in
         record {
-          seat = wait.seat;
+          port_image = wait.port_image;
           is = wait.is;
-          step = (here (λ a. a.turn ≤ until) wait.early, elim wait.waits [ inl ask ↦ ask_waits wait.seat wait.is wait.early ask found | inr take ↦ take_waits wait.seat wait.is wait.early take found ], refl);
+          step = (here (λ a. a.turn ≤ until) wait.early, elim wait.waits [ inl ask ↦ ask_waits wait.port_image wait.is wait.early ask found | inr take ↦ take_waits wait.port_image wait.is wait.early take found ], refl);
         }
 
 -- ---- by the key

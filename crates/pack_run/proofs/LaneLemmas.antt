@@ -14,7 +14,7 @@ use Rattle.event_defs.specs.Steps.{written}
 use Rattle.event_defs.specs.Steps as core
 use Rattle.slot_words.specs.packed.Laws.{packed_stamp}
 use Rattle.slot_words.specs.packed.Sound.{IsPackOf}
-use Rattle.slot_words.specs.packed.Words.{packed, stamp_in, stamp_of}
+use Rattle.slot_words.specs.packed.Words.{packed, stamp_in, packed_stamp_of}
 use Rattle.pack_run.specs.Core.{IsLaneWord}
 
 pub only_bank : (turn : ℕ) → turn % 1 ≡ 0
@@ -53,14 +53,14 @@ lane_word l turn word plain low packs = elim (cases_eq turn 0) [
 -- ---- what a reader finds whose turn is that of the last Put or the one after it
 
 module _ (l word plain turn : ℕ) (is : IsLaneWord l word plain) (begun : 1 ≤ turn) (behind : turn ≤ core.stamp_of plain + 1) (ahead : core.stamp_of plain ≤ turn) where
-  stamp_is : 1 ≤ core.stamp_of plain → stamp_of word ≡ stamp_in (core.stamp_of plain)
-  stamp_is some = let has = is.put some in ap stamp_of has.1 ∙ packed_stamp (core.stamp_of plain) has.0
+  stamp_is : 1 ≤ core.stamp_of plain → packed_stamp_of word ≡ stamp_in (core.stamp_of plain)
+  stamp_is some = let has = is.put some in ap packed_stamp_of has.1 ∙ packed_stamp (core.stamp_of plain) has.0
 
   -- a packed word with this turn's stamp is of this turn
-  pub plain_now : stamp_of word ≡ stamp_in turn → core.stamp_of plain ≡ turn
+  pub plain_now : packed_stamp_of word ≡ stamp_in turn → core.stamp_of plain ≡ turn
   plain_now same = elim (cases_eq (core.stamp_of plain) 0) [
     | inl none ↦
-        let zero_is : stamp_of word ≡ 0 = ap stamp_of (is.fresh none).0 in
+        let zero_is : packed_stamp_of word ≡ 0 = ap packed_stamp_of (is.fresh none).0 in
         let wrong : 0 ≡ turn % 16 = sym zero_is ∙ same in
         absurd (omega (arith, wrong, none, behind, begun))
     | inr some ↦
@@ -69,7 +69,7 @@ module _ (l word plain turn : ℕ) (is : IsLaneWord l word plain) (begun : 1 ≤
   ]
 
   -- and one with another stamp is of the turn before
-  pub plain_before : stamp_of word ≢ stamp_in turn → core.stamp_of plain < turn
+  pub plain_before : packed_stamp_of word ≢ stamp_in turn → core.stamp_of plain < turn
   plain_before other = elim (cases_eq (core.stamp_of plain) turn) [
     | inl same ↦ absurd (other (stamp_is (omega (arith, same, begun)) ∙ ap stamp_in same))
     | inr differs ↦ omega (arith, differs, ahead)
@@ -79,12 +79,12 @@ module _ (l word plain turn : ℕ) (is : IsLaneWord l word plain) (begun : 1 ≤
 pub not_before : (l turn plain : ℕ) (planes : Planes) → IsLaneWord l (packed turn planes) plain → core.stamp_of plain + 1 ≡ turn → ⊥
 not_before l turn plain planes is before = elim (cases_eq (core.stamp_of plain) 0) [
   | inl none ↦
-      let zero_is : stamp_of (packed turn planes) ≡ 0 = ap stamp_of (is.fresh none).0 in
+      let zero_is : packed_stamp_of (packed turn planes) ≡ 0 = ap packed_stamp_of (is.fresh none).0 in
       let wrong : 0 ≡ turn % 16 = sym zero_is ∙ packed_stamp turn planes in
       absurd (omega (arith, wrong, none, before))
   | inr some ↦
       let has = is.put (omega (arith, some)) in
-      let e : turn % 16 ≡ core.stamp_of plain % 16 = sym (packed_stamp turn planes) ∙ (ap stamp_of has.1 ∙ packed_stamp (core.stamp_of plain) has.0) in
+      let e : turn % 16 ≡ core.stamp_of plain % 16 = sym (packed_stamp turn planes) ∙ (ap packed_stamp_of has.1 ∙ packed_stamp (core.stamp_of plain) has.0) in
       absurd (omega (arith, e, before))
 ]
 

@@ -29,24 +29,24 @@ placed_first old port begun =
     begun.port_is ∙ ap {A = Place} {B = PlacedPack} (λ (x : Place). record (at_start old.image old.feed old.port) { turn = x.turn; puts = x.puts; takes = x.takes }) (sym begun.place_is)
 
 -- what the port says comes next in the first lane comes next
-next_in : (seat : PortImage) (old : PackPassView) (next : Upcoming) → IsNext seat old.place 1 (turns_of old.image old.feed) (value_in (placed old) 0 old.port) (lane_action (value_in (placed old) 0 old.port) next) → IsNextAction seat old next
-next_in seat old (action.Ask reader) is = is
-next_in seat old (action.Put slot) is = (is.0, is.1)
-next_in seat old (action.Take slot) is = is
-next_in seat old action.Tell is = is
-next_in seat old action.Done is = is
+next_in : (port_image : PortImage) (old : PackPassView) (next : Upcoming) → IsNext port_image old.place 1 (turns_of old.image old.feed) (value_in (placed old) 0 old.port) (lane_action (value_in (placed old) 0 old.port) next) → IsNextAction port_image old next
+next_in port_image old (action.Ask reader) is = is
+next_in port_image old (action.Put slot) is = (is.0, is.1)
+next_in port_image old (action.Take slot) is = is
+next_in port_image old action.Tell is = is
+next_in port_image old action.Done is = is
 
 pub upcoming : (old : PackPassView) (port : PlacedPack) (known : List ℕ) (next : Upcoming) → port ≡ placed old → known ≡ old.place.known → IsFit old → IsNextOf port known next → IsUpcoming old next
 upcoming old port known next port_is known_is fit is =
-    let seat = member_at old.image.ports old.port fit.inside in
+    let port_image = member_at old.image.ports old.port fit.inside in
     let here : IsNextOf (placed old) old.place.known next = subst (λ k. IsNextOf (placed old) k next) known_is (subst (λ p. IsNextOf p known next) port_is is) in
-    record { fit = fit; seat = seat.0; is = seat.1; next = next_in seat.0 old next (here.each 0 (omega arith) seat.0 seat.1) }
+    record { fit = fit; port_image = port_image.0; is = port_image.1; next = next_in port_image.0 old next (here.each 0 (omega arith) port_image.0 port_image.1) }
 
 -- ---- Ask
 
 module _ (old : PackPassView) (reader : ℕ) (next : IsUpcoming old (action.Ask reader)) where
   pub reader_there : reader < length old.image.ports
-  reader_there = asked_in old.image next.fit.runs.image_fits old.port next.seat next.is old.place 1 reader next.next.1
+  reader_there = asked_in old.image next.fit.runs.image_fits old.port next.port_image next.is old.place 1 reader next.next.1
 
   pub asked_step : (new : PackPassView) (finished turn : ℕ) → new ≡ one_step old (after_ask old.place reader finished) (progress_word reader) finished → turn ≡ new.place.turn
       → (answer : Step) → IsAnswer finished turn answer → IsStepOf old answer new
@@ -54,22 +54,22 @@ module _ (old : PackPassView) (reader : ℕ) (next : IsUpcoming old (action.Ask 
     last : new.last.number ≡ finished
     last = ap (λ (x : PackPassView). x.last.number) is
 
-    asks : Asks next.seat old new reader
+    asks : Asks next.port_image old new reader
     asks = record { next = next.next.1; is = subst (λ n. new ≡ one_step old (after_ask old.place reader n) (progress_word reader) n) (sym last) is }
 
     same_turn : turn ≡ old.place.turn
     same_turn = turn_is ∙ ap (λ (x : PackPassView). x.place.turn) is
 
     answered : (answer : Step) → IsAnswer finished turn answer → IsStepOf old answer new
-    answered Moved enough = (event.Ask reader, record { seat = next.seat; is = next.is; early = next.next.0; makes = record { asks = asks; enough = let l = last in let t = same_turn in omega arith } })
-    answered NotYet less = record { seat = next.seat; is = next.is; early = next.next.0; waits = inl (record { reader = reader; asks = asks; less = let l = last in let t = same_turn in omega arith }) }
+    answered Moved enough = (event.Ask reader, record { port_image = next.port_image; is = next.is; early = next.next.0; makes = record { asks = asks; enough = let l = last in let t = same_turn in omega arith } })
+    answered NotYet less = record { port_image = next.port_image; is = next.is; early = next.next.0; waits = inl (record { reader = reader; asks = asks; less = let l = last in let t = same_turn in omega arith }) }
     answered Done none = absurd none
 
 -- ---- Put
 
 module _ (old : PackPassView) (slot : ℕ) (next : IsUpcoming old (action.Put slot)) where
   sending : IsSending (placed old) next.next.1.i next.next.1.link
-  sending = record { early = next.next.0; seat = next.seat; is = next.is; next = next.next.1.sends }
+  sending = record { early = next.next.0; port_image = next.port_image; is = next.is; next = next.next.1.sends }
 
   pub may_put : (port : PlacedPack) → port ≡ placed old → CanPut port
   may_put port port_is = subst CanPut (sym port_is) (record { i = next.next.1.i; link = next.next.1.link; sending = sending })
@@ -84,7 +84,7 @@ module _ (old : PackPassView) (slot : ℕ) (next : IsUpcoming old (action.Put sl
   can_put values are = record {
     i = next.next.1.i;
     link = next.next.1.link;
-    send = record { port = next.seat; is = next.is; link_is = next.next.1.sends.is };
+    send = record { port = next.port_image; is = next.is; link_is = next.next.1.sends.is };
     slot_is = next.next.1.slot_is;
     missing = subst (λ s. is_in s old.place.puts ≡ false) next.next.1.slot_is next.next.1.sends.missing;
     ready = next.next.1.ready;
@@ -93,10 +93,10 @@ module _ (old : PackPassView) (slot : ℕ) (next : IsUpcoming old (action.Put sl
 
   module _ (values : Planes) (are : AreValues old.image old.feed old.place.turn old.port slot values) (new : PackPassView) (put : IsPut old slot values new) where
     put_is : new ≡ one_step old (after_put old.place slot) (word_at old old.port next.next.1.i) (packed old.place.turn values)
-    put_is = put.each next.next.1.i next.next.1.link (record { port = next.seat; is = next.is; link_is = next.next.1.sends.is }) next.next.1.slot_is
+    put_is = put.each next.next.1.i next.next.1.link (record { port = next.port_image; is = next.is; link_is = next.next.1.sends.is }) next.next.1.slot_is
 
     pub put_step : IsStepOf old Moved new
-    put_step = (event.Put slot, record { seat = next.seat; is = next.is; early = next.next.0; makes = record { next = next.next.1; planes = values; values = are; is = put_is } })
+    put_step = (event.Put slot, record { port_image = next.port_image; is = next.is; early = next.next.0; makes = record { next = next.next.1; planes = values; values = are; is = put_is } })
 
     pub put_placed : (port port' : PlacedPack) → port ≡ placed old → HasPut port port' → port' ≡ placed new
     put_placed port port' port_is has =
@@ -108,11 +108,11 @@ module _ (old : PackPassView) (slot : ℕ) (next : IsUpcoming old (action.Put sl
 
 module _ (old : PackPassView) (slot : ℕ) (next : IsUpcoming old (action.Take slot)) where
   receiving : IsReceiving (placed old) next.next.1.j next.next.1.link
-  receiving = record { early = next.next.0; seat = next.seat; is = next.is; next = next.next.1.receives }
+  receiving = record { early = next.next.0; port_image = next.port_image; is = next.is; next = next.next.1.receives }
 
   pub can_take : pass.CanTake old slot
   can_take = record {
-    port = next.seat;
+    port = next.port_image;
     is = next.is;
     j = next.next.1.j;
     link = next.next.1.link;
@@ -123,9 +123,9 @@ module _ (old : PackPassView) (slot : ℕ) (next : IsUpcoming old (action.Take s
 
   module _ (new : PackPassView) (t : PackTaken) (took : IsTake old slot t new) where
     looked : HasLooked old next.next.1.link t new
-    looked = took.each next.seat next.next.1.j next.next.1.link next.is next.next.1.receives.is next.next.1.slot_is
+    looked = took.each next.port_image next.next.1.j next.next.1.link next.is next.next.1.receives.is next.next.1.slot_is
 
-    abbrev looks : (t : PackTaken) (l : HasLooked old next.next.1.link t new) (place : Place) → new ≡ one_step old place (word_at old next.next.1.link.sender l.i) new.last.number → Looks next.seat old new slot place
+    abbrev looks : (t : PackTaken) (l : HasLooked old next.next.1.link t new) (place : Place) → new ≡ one_step old place (word_at old next.next.1.link.sender l.i) new.last.number → Looks next.port_image old new slot place
     looks t l place is = record { next = next.next.1; i = l.i; source = record { sent = l.sent; send = l.send; same_slot = l.same_slot }; is = is }
 
     module _ (values : Planes) (is : t ≡ taken.Value values) where
@@ -139,7 +139,7 @@ module _ (old : PackPassView) (slot : ℕ) (next : IsUpcoming old (action.Take s
       took_step = (
         event.Take slot,
         record {
-          seat = next.seat;
+          port_image = next.port_image;
           is = next.is;
           early = next.next.0;
           makes = record {
@@ -165,7 +165,7 @@ module _ (old : PackPassView) (slot : ℕ) (next : IsUpcoming old (action.Take s
 
       pub missed_step : IsStepOf old NotYet new
       missed_step = record {
-        seat = next.seat;
+        port_image = next.port_image;
         is = next.is;
         early = next.next.0;
         waits = inr (record {

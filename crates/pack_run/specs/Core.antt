@@ -64,9 +64,9 @@ pass_in table p v = record {
 
 -- this is the step of the pass's port by the core of a lane
 pub record IsCoreStep (l : ℕ) (pass : PackPassView) (state : CoreState) (answer : CoreStep) (after : CoreState) : Type 0 where
-  pub seat : PortImage
-  pub is : IsPort pass.image pass.port seat
-  pub step : IsStep pass.image (stimulus_of pass.image pass.feed l) 1 (turns_of pass.image pass.feed) pass.port seat state answer after
+  pub port_image : PortImage
+  pub is : IsPort pass.image pass.port port_image
+  pub step : IsStep pass.image (stimulus_of pass.image pass.feed l) 1 (turns_of pass.image pass.feed) pass.port port_image state answer after
 
 -- the core of the lane makes the same event; its port stands afterwards where the pass does, and the word of the pass's
 -- last step, which the event read or wrote, says there what the pass found or left in it

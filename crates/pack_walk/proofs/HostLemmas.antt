@@ -40,15 +40,15 @@ use Rattle.pack_walk.proofs.FeedLemmas.{fed_padded}
 
 -- ---- before the first turn
 
-pub ready_new : (a : Inside) (image : Image) (lanes : Lanes) (seat : PortImage) → a.bank ≡ at_first image lanes (host_of image) → IsWellFormed image → AreLanes image.columns lanes → IsPort image (host_of image) seat
-    → seat.work ≡ Host a.inputs.now a.printed.now → a.feed ≡ record { lanes = lanes; columns = image.columns; cycles = 0 } → a.units ≡ image.units → a.unit ≡ 0 → length a.cells ≡ longest lanes * length a.printed.now → IsReady a
-ready_new a image lanes seat bank fits are is work feed units unit room = record {
+pub ready_new : (a : Inside) (image : Image) (lanes : Lanes) (port_image : PortImage) → a.bank ≡ at_first image lanes (host_of image) → IsWellFormed image → AreLanes image.columns lanes → IsPort image (host_of image) port_image
+    → port_image.work ≡ Host a.inputs.now a.printed.now → a.feed ≡ record { lanes = lanes; columns = image.columns; cycles = 0 } → a.units ≡ image.units → a.unit ≡ 0 → length a.cells ≡ longest lanes * length a.printed.now → IsReady a
+ready_new a image lanes port_image bank fits are is work feed units unit room = record {
   lanes = subst (λ (v : PackPortView). AreLanes v.image.columns v.stimulus) (sym bank) are;
   feed_lanes = ap (λ (f : FeedView). f.lanes) feed ∙ ap (λ (v : PackPortView). v.stimulus) (sym bank);
   feed_columns = ap (λ (f : FeedView). f.columns) feed ∙ ap (λ (v : PackPortView). v.image.columns) (sym bank);
   each = λ l low. (
     (cursor l).0,
-    host.ready_first (lane_host l (cursor l).0 a) image (stimulus l) seat (ap (lane_port l) bank) fits (lane_valid image.columns lanes l are) (lane_columns image.columns lanes l are) is work
+    host.ready_first (lane_host l (cursor l).0 a) image (stimulus l) port_image (ap (lane_port l) bank) fits (lane_valid image.columns lanes l are) (lane_columns image.columns lanes l are) is work
         (ap (λ (v : PackPortView). lane_stimulus v.image.columns v.stimulus l) bank) units refl (on l) first
         (length-map a.cells (λ (q : Planes). lane_of q l) ∙ (room ∙ ap (λ (v : PackPortView). longest v.stimulus * length a.printed.now) (sym bank))),
   );
@@ -83,7 +83,7 @@ plain_moved b begun executed received ready running = record {
   stimulus_is = ready.stimulus_is;
   units_is = ready.units_is;
   host = ready.host;
-  seat = ready.seat;
+  port_image = ready.port_image;
   is = ready.is;
   work = ready.work;
   running = running;

@@ -38,7 +38,7 @@ module _ (a : Inside) (kept : IsKept a) where
 
   pub next_of : (known : List ℕ) (next : Upcoming) → stands.IsNextOf a.walk.stand known 1 next → (view : PlacedPack) → view_of a ≡ view → IsNextOf view known next
   next_of known next is view seen = subst (λ v. IsNextOf v known next) seen (record {
-    each = λ l low seat at. (subst (λ s. stands.IsNextOf s known 1 next) (sym stand_is) is).each (value_in (view_of a) l a.walk.stand.port) seat at;
+    each = λ l low port_image at. (subst (λ s. stands.IsNextOf s known 1 next) (sym stand_is) is).each (value_in (view_of a) l a.walk.stand.port) port_image at;
   })
 
   -- the host has room for the row of its turn

@@ -80,8 +80,8 @@ lane_action value action = action_of value action
 
 -- this is its next event by what it knows, in each lane; there is one bank
 pub record IsNextOf (view : PlacedPack) (known : List ℕ) (action : Upcoming) : Type 0 where
-  pub each : (l : ℕ) → l < LANES → (seat : PortImage) → IsPort view.image view.port seat
-      → IsNext seat (place_of view known) 1 (last_turn view) (value_in view l view.port) (lane_action (value_in view l view.port) action)
+  pub each : (l : ℕ) → l < LANES → (port_image : PortImage) → IsPort view.image view.port port_image
+      → IsNext port_image (place_of view known) 1 (last_turn view) (value_in view l view.port) (lane_action (value_in view l view.port) action)
 
 -- these are the values of what it sends next
 pub record IsNextValue (view : PlacedPack) (values : Planes) : Type 0 where

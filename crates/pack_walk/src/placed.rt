@@ -52,12 +52,12 @@ impl<'a> PackPlaced<'a> {
         requires there { port < length image.now.ports }
         ensures { IfOk result (λ made. made ≡ at_start image.now lanes.now port) }
     {
-        let seat = &image.ports.as_slice()[port as usize];
-        let (slots, stops, readers) = lists_of(alloc, image, seat)?;
+        let port_image = &image.ports.as_slice()[port as usize];
+        let (slots, stops, readers) = lists_of(alloc, image, port_image)?;
         let kind = first_kind(alloc, image, lanes, port)?;
         let until = image.units as u64 * lanes.cycles() as u64;
         Ok(PackPlaced {
-            walk: Walk::new(kind, seat, slots, stops, readers, until),
+            walk: Walk::new(kind, port_image, slots, stops, readers, until),
         })
     }
 

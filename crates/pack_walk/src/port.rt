@@ -77,8 +77,8 @@ impl<'a> PackHost<'a> {
         ensures { IfOk result (λ made. made ≡ at_first image.now lanes.now (host_of image.now)) }
     {
         let port = image.ports.len() - 1;
-        let seat = &image.ports.as_slice()[port];
-        match &seat.work {
+        let port_image = &image.ports.as_slice()[port];
+        match &port_image.work {
             Work::Logic { .. } => unreachable!(),
             Work::Array { .. } => unreachable!(),
             Work::Host { inputs, printed } => {

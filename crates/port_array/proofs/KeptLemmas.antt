@@ -45,11 +45,11 @@ past_at view port source fits is past = record { port = port; is = is; past = pa
 
 pub blocks_read : (a : LaneArray) → IsReady a → Each (ReadsPast a.bank) a.blocks
 blocks_read a ready b block there =
-    let right : IsBlock ready.seat block = (work_right a.bank.image a.bank.port ready.seat a.blocks a.bits ready.image ready.is ready.work).0 b block there in
+    let right : IsBlock ready.port_image block = (work_right a.bank.image a.bank.port ready.port_image a.blocks a.bits ready.image ready.is ready.work).0 b block there in
     record {
-      we = past_at a.bank ready.seat block.we ready.image ready.is right.we;
-      address = λ i source at. past_at a.bank ready.seat source ready.image ready.is (right.address i source at);
-      word = λ i source at. past_at a.bank ready.seat source ready.image ready.is (right.word i source at);
+      we = past_at a.bank ready.port_image block.we ready.image ready.is right.we;
+      address = λ i source at. past_at a.bank ready.port_image source ready.image ready.is (right.address i source at);
+      word = λ i source at. past_at a.bank ready.port_image source ready.image ready.is (right.word i source at);
     }
 
 -- the act of a memory is that of the image
@@ -61,7 +61,7 @@ act_same view port block words is = ap act_by is where
     past_by source = value_of_member (λ q. past_value view.port q.ins (past_in view).value source) port_there
 
 -- a memory of the port is one of the image
-block_is : (a : LaneArray) (b : ℕ) (block : BlockWork) → (ready : IsReady a) → slice_get a.blocks b ≡ Some block → IsBlockOf a.bank.image a.bank.port b ready.seat block
+block_is : (a : LaneArray) (b : ℕ) (block : BlockWork) → (ready : IsReady a) → slice_get a.blocks b ≡ Some block → IsBlockOf a.bank.image a.bank.port b ready.port_image block
 block_is a b block ready there = record {
   port_is = ready.is;
   block_is = ap (λ work. slice_get (blocks_of work) b) ready.work ∙ there;
@@ -69,19 +69,19 @@ block_is a b block ready there = record {
 
 -- ---- before the first turn
 
-pub ready_first : (a : LaneArray) (image : Image) (stimulus : Stimulus) (p : ℕ) (seat : PortImage) → a.bank ≡ at_first image stimulus p → IsWellFormed image → IsPort image p seat
-    → seat.work ≡ Array a.blocks a.bits → AreFirst (initial_value image.init) a.blocks a.memories → IsReady a
-ready_first a image stimulus p seat bank fits is work first = record {
+pub ready_first : (a : LaneArray) (image : Image) (stimulus : Stimulus) (p : ℕ) (port_image : PortImage) → a.bank ≡ at_first image stimulus p → IsWellFormed image → IsPort image p port_image
+    → port_image.work ≡ Array a.blocks a.bits → AreFirst (initial_value image.init) a.blocks a.memories → IsReady a
+ready_first a image stimulus p port_image bank fits is work first = record {
   image = subst (λ view. IsWellFormed view.image) (sym bank) fits;
   first = subst (λ view. 1 ≤ view.turn) (sym bank) (omega arith);
-  seat = seat;
-  is = subst (λ view. IsPort view.image view.port seat) (sym bank) is;
+  port_image = port_image;
+  is = subst (λ view. IsPort view.image view.port port_image) (sym bank) is;
   work = work;
   fit = record { long = first.long; each = λ b block memory at there. (first.each b block memory at there).fits };
   words = λ b block memory at there.
       subst (λ view. memory.cells ≡ (frame view.image view.stimulus (words_turn view)).words view.port b) (sym bank)
       ((first.each b block memory at there).words
-      ∙ sym ((value_meets image stimulus fits).first_words p b seat block (record { port_is = is; block_is = ap (λ w. slice_get (blocks_of w) b) work ∙ at })));
+      ∙ sym ((value_meets image stimulus fits).first_words p b port_image block (record { port_is = is; block_is = ap (λ w. slice_get (blocks_of w) b) work ∙ at })));
   outs = λ begun edge b block memory at there. absurd (not_begun (ap (λ view. view.begun) (sym bank) ∙ begun));
 } where
   not_begun : false ≡ true → ⊥
@@ -98,7 +98,7 @@ module _ (a : LaneArray) (memories : List LaneMemory) (ready : IsReady a) (fresh
 
   -- an edge that a memory went through
   acted_here : is_edge a.bank.image.units a.bank.turn ≡ true → (b : ℕ) (block : BlockWork) (memory : LaneMemory) → slice_get a.blocks b ≡ Some block → slice_get memories b ≡ Some memory
-      → (memory.cells ≡ (block_act a.bank.port ready.seat.ins (past_in a.bank).value block ((past_in a.bank).words a.bank.port b)).words) × (memory.outs ≡ (block_act a.bank.port ready.seat.ins (past_in a.bank).value block ((past_in a.bank).words a.bank.port b)).outputs)
+      → (memory.cells ≡ (block_act a.bank.port ready.port_image.ins (past_in a.bank).value block ((past_in a.bank).words a.bank.port b)).words) × (memory.outs ≡ (block_act a.bank.port ready.port_image.ins (past_in a.bank).value block ((past_in a.bank).words a.bank.port b)).outputs)
   acted_here edge b block memory at there = (did.words ∙ ap (λ act. act.words) whole, did.outputs ∙ ap (λ act. act.outputs) whole) where
     within : b < length a.memories
     within = omega (arith, slice_get_within memories b memory there, fit.long, ready.fit.long)
@@ -109,12 +109,12 @@ module _ (a : LaneArray) (memories : List LaneMemory) (ready : IsReady a) (fresh
     did : Acted a.bank block (get_or a.memories b memory) memory
     did = (acted edge).acted b block (get_or a.memories b memory) memory (slice_get_within a.blocks b block at) at was there
 
-    whole : act_at a.bank block (get_or a.memories b memory).cells ≡ block_act a.bank.port ready.seat.ins (past_in a.bank).value block ((past_in a.bank).words a.bank.port b)
-    whole = ap (act_at a.bank block) (held_before b block (get_or a.memories b memory) at was) ∙ act_same a.bank ready.seat block ((past_in a.bank).words a.bank.port b) ready.is
+    whole : act_at a.bank block (get_or a.memories b memory).cells ≡ block_act a.bank.port ready.port_image.ins (past_in a.bank).value block ((past_in a.bank).words a.bank.port b)
+    whole = ap (act_at a.bank block) (held_before b block (get_or a.memories b memory) at was) ∙ act_same a.bank ready.port_image block ((past_in a.bank).words a.bank.port b) ready.is
 
   words_begun : (b : ℕ) (block : BlockWork) (memory : LaneMemory) → slice_get a.blocks b ≡ Some block → slice_get memories b ≡ Some memory → memory.cells ≡ (now_in a.bank).words a.bank.port b
-  words_begun b block memory at there = by_edge (is_edge a.bank.image.units a.bank.turn) refl ∙ sym ((turn_meets a.bank ready.image ready.first).words a.bank.port b ready.seat block (block_is a b block ready at)) where
-    by_edge : (edge : Bool) → is_edge a.bank.image.units a.bank.turn ≡ edge → memory.cells ≡ block_words_after a.bank.image a.bank.turn a.bank.port ready.seat.ins (past_in a.bank).value block ((past_in a.bank).words a.bank.port b)
+  words_begun b block memory at there = by_edge (is_edge a.bank.image.units a.bank.turn) refl ∙ sym ((turn_meets a.bank ready.image ready.first).words a.bank.port b ready.port_image block (block_is a b block ready at)) where
+    by_edge : (edge : Bool) → is_edge a.bank.image.units a.bank.turn ≡ edge → memory.cells ≡ block_words_after a.bank.image a.bank.turn a.bank.port ready.port_image.ins (past_in a.bank).value block ((past_in a.bank).words a.bank.port b)
     by_edge true is = (acted_here is b block memory at there).0 ∙ sym (cond-true {A = List (List V4)} (is_edge a.bank.image.units a.bank.turn) _ _ is)
     by_edge false is =
         held_before b block memory at (subst (λ list. slice_get list b ≡ Some memory) (same is) there) ∙ sym (cond-false {A = List (List V4)} (is_edge a.bank.image.units a.bank.turn) _ _ is)
@@ -123,7 +123,7 @@ module _ (a : LaneArray) (memories : List LaneMemory) (ready : IsReady a) (fresh
   ready_begun bank begins = subst (λ view. IsReady (record a { bank = view; memories = memories })) (sym begins) (record {
     image = ready.image;
     first = ready.first;
-    seat = ready.seat;
+    port_image = ready.port_image;
     is = ready.is;
     work = ready.work;
     fit = fit;
@@ -140,11 +140,11 @@ pub record IsNext (a : LaneArray) (port : PortImage) (slot : ℕ) (bit : OutBit)
   pub fits : FitsBit a.memories bit
   pub answers : is_edge a.bank.image.units a.bank.turn ≡ true → answered_bit a.memories bit ≡ block_bit a.bank.port port.ins (past_in a.bank) a.blocks bit.block bit.bit
 
-same_seat : (a : LaneArray) (port : PortImage) (ready : IsReady a) → IsPort a.bank.image a.bank.port port → ready.seat ≡ port
-same_seat a port ready is = let here = ready.is in cc
+same_port_image : (a : LaneArray) (port : PortImage) (ready : IsReady a) → IsPort a.bank.image a.bank.port port → ready.port_image ≡ port
+same_port_image a port ready is = let here = ready.is in cc
 
 same_work : (a : LaneArray) (port : PortImage) → IsReady a → IsPort a.bank.image a.bank.port port → port.work ≡ Array a.blocks a.bits
-same_work a port ready is = subst (λ q. q.work ≡ Array a.blocks a.bits) (same_seat a port ready is) ready.work
+same_work a port ready is = subst (λ q. q.work ≡ Array a.blocks a.bits) (same_port_image a port ready is) ready.work
 
 pub next_bit : (a : LaneArray) (slot i : ℕ) (d : OutBit) → IsReady a → (can : CanExecute a.bank slot) → i ≡ a.bank.executed → IsNext a can.port slot (get_or a.bits i d)
 next_bit a slot i d ready can same = of_bit (at_map (λ out. out.slot) a.bits a.bank.executed slot (subst (λ work. IsItemIn work a.bank.executed slot) (same_work a can.port ready can.is) can.next)) where
@@ -161,7 +161,7 @@ next_bit a slot i d ready can same = of_bit (at_map (λ out. out.slot) a.bits a.
     answers = λ edge.
         ap (value_of_member (λ m. value_at m.outs bit.bit)) memory_there
         ∙ ap (λ outs. value_at outs bit.bit) (ready.outs can.begun edge bit.block block memory block_there memory_there)
-        ∙ ap (λ q. value_at (block_act a.bank.port q.ins (past_in a.bank).value block ((past_in a.bank).words a.bank.port bit.block)).outputs bit.bit) (same_seat a can.port ready can.is)
+        ∙ ap (λ q. value_at (block_act a.bank.port q.ins (past_in a.bank).value block ((past_in a.bank).words a.bank.port bit.block)).outputs bit.bit) (same_port_image a can.port ready can.is)
         ∙ ap (value_of_member (λ b. value_at (block_act a.bank.port can.port.ins (past_in a.bank).value b ((past_in a.bank).words a.bank.port bit.block)).outputs bit.bit)) (sym block_there);
   }
 
@@ -176,7 +176,7 @@ pub ready_moved : (a : LaneArray) (bank : PortView) (executed received : ℕ) �
 ready_moved a bank executed received ready same = subst (λ view. IsReady (record a { bank = view })) (sym same) (record {
   image = ready.image;
   first = ready.first;
-  seat = ready.seat;
+  port_image = ready.port_image;
   is = ready.is;
   work = ready.work;
   fit = ready.fit;
@@ -189,7 +189,7 @@ pub ready_ended : (a : LaneArray) (bank : PortView) → IsReady a → a.bank.beg
 ready_ended a bank ready begun same = subst (λ view. IsReady (record a { bank = view })) (sym same) (record {
   image = ready.image;
   first = omega arith;
-  seat = ready.seat;
+  port_image = ready.port_image;
   is = ready.is;
   work = ready.work;
   fit = ready.fit;

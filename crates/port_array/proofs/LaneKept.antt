@@ -27,15 +27,15 @@ module _ {W P F S : Type 0} (w : word.Ghosts W P F S) where
   all_read a ready l low = plain.blocks_read (lane_array w l a) (ready.each l low)
 
   -- before the first turn
-  pub ready_first : (a : Parts W S) (image : Image) (feed : S) (p : ℕ) (seat : PortImage) → a.bank ≡ at_first image feed p → IsWellFormed image → IsPort image p seat
-      → seat.work ≡ Array a.blocks a.bits → AreFirst w (initial_value image.init) a.blocks a.memories → IsReady w a
-  ready_first a image feed p seat bank fits is work first = record {
-    seat = seat;
-    is = subst (λ view. IsPort view.image view.port seat) (sym bank) is;
+  pub ready_first : (a : Parts W S) (image : Image) (feed : S) (p : ℕ) (port_image : PortImage) → a.bank ≡ at_first image feed p → IsWellFormed image → IsPort image p port_image
+      → port_image.work ≡ Array a.blocks a.bits → AreFirst w (initial_value image.init) a.blocks a.memories → IsReady w a
+  ready_first a image feed p port_image bank fits is work first = record {
+    port_image = port_image;
+    is = subst (λ view. IsPort view.image view.port port_image) (sym bank) is;
     work = work;
     whole = record { long = first.long; each = λ b block memory at there. (first.each b block memory at there).whole };
     each = λ l low.
-        plain.ready_first (lane_array w l a) image (w.stimulus image.columns feed l) p seat (ap (lane_port w.stimulus l) bank) fits is work
+        plain.ready_first (lane_array w l a) image (w.stimulus image.columns feed l) p port_image (ap (lane_port w.stimulus l) bank) fits is work
         (lane_first w l low (initial_value image.init) a.blocks a.memories first);
   }
 
@@ -45,8 +45,8 @@ module _ {W P F S : Type 0} (w : word.Ghosts W P F S) where
       → (is_edge a.bank.image.units a.bank.turn ≡ false → memories ≡ a.memories)
       → (bank : View S) → bank ≡ after_begin a.bank → IsReady w (record a { bank = bank; memories = memories })
   ready_begun a memories ready fresh whole acted same bank begins = record {
-    seat = ready.seat;
-    is = subst (λ view. IsPort view.image view.port ready.seat) (sym begins) ready.is;
+    port_image = ready.port_image;
+    is = subst (λ view. IsPort view.image view.port ready.port_image) (sym begins) ready.is;
     work = ready.work;
     whole = whole;
     each = λ l low.
@@ -78,17 +78,17 @@ module _ {W P F S : Type 0} (w : word.Ghosts W P F S) where
         (in_lane w.lanes (λ k. IsHeld (lane_port w.stimulus k a.bank) slot (w.lane answer k) (w.lane values k)) held l low))
 
   -- the bank has come further in the turn, or ended it, and the memories are as they were
-  moved : (a : Parts W S) (bank : View S) → (ready : IsReady w a) → IsPort bank.image bank.port ready.seat → ((l : ℕ) → l < w.lanes → one_kept.IsReady (record (lane_array w l a) { bank = lane_port w.stimulus l bank })) → IsReady w (record a { bank = bank })
-  moved a bank ready is each = record { seat = ready.seat; is = is; work = ready.work; whole = ready.whole; each = each }
+  moved : (a : Parts W S) (bank : View S) → (ready : IsReady w a) → IsPort bank.image bank.port ready.port_image → ((l : ℕ) → l < w.lanes → one_kept.IsReady (record (lane_array w l a) { bank = lane_port w.stimulus l bank })) → IsReady w (record a { bank = bank })
+  moved a bank ready is each = record { port_image = ready.port_image; is = is; work = ready.work; whole = ready.whole; each = each }
 
   pub ready_executed : (a : Parts W S) (bank : View S) → IsReady w a → bank ≡ after_execute a.bank → IsReady w (record a { bank = bank })
-  ready_executed a bank ready same = moved a bank ready (subst (λ view. IsPort view.image view.port ready.seat) (sym same) ready.is) (λ l low.
+  ready_executed a bank ready same = moved a bank ready (subst (λ view. IsPort view.image view.port ready.port_image) (sym same) ready.is) (λ l low.
       plain.ready_moved (lane_array w l a) (lane_port w.stimulus l bank) (a.bank.executed + 1) a.bank.received (ready.each l low) (ap (lane_port w.stimulus l) same))
 
   pub ready_received : (a : Parts W S) (bank : View S) → IsReady w a → bank ≡ after_receive a.bank → IsReady w (record a { bank = bank })
-  ready_received a bank ready same = moved a bank ready (subst (λ view. IsPort view.image view.port ready.seat) (sym same) ready.is) (λ l low.
+  ready_received a bank ready same = moved a bank ready (subst (λ view. IsPort view.image view.port ready.port_image) (sym same) ready.is) (λ l low.
       plain.ready_moved (lane_array w l a) (lane_port w.stimulus l bank) a.bank.executed (a.bank.received + 1) (ready.each l low) (ap (lane_port w.stimulus l) same))
 
   pub ready_ended : (a : Parts W S) (bank : View S) → IsReady w a → a.bank.begun ≡ true → bank ≡ after_end a.bank → IsReady w (record a { bank = bank })
-  ready_ended a bank ready begun same = moved a bank ready (subst (λ view. IsPort view.image view.port ready.seat) (sym same) ready.is) (λ l low.
+  ready_ended a bank ready begun same = moved a bank ready (subst (λ view. IsPort view.image view.port ready.port_image) (sym same) ready.is) (λ l low.
       plain.ready_ended (lane_array w l a) (lane_port w.stimulus l bank) (ready.each l low) begun (ap (lane_port w.stimulus l) same))

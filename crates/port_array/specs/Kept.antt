@@ -27,12 +27,12 @@ pub record LaneArray : Type 0 where
 pub record IsReady (a : LaneArray) : Type 0 where
   pub image : IsWellFormed a.bank.image
   pub first : 1 ≤ a.bank.turn
-  pub seat : PortImage
-  pub is : IsPort a.bank.image a.bank.port seat
-  pub work : seat.work ≡ Array a.blocks a.bits
+  pub port_image : PortImage
+  pub is : IsPort a.bank.image a.bank.port port_image
+  pub work : port_image.work ≡ Array a.blocks a.bits
   pub fit : AreFit a.blocks a.memories
   pub words : (b : ℕ) (block : BlockWork) (memory : LaneMemory) → slice_get a.blocks b ≡ Some block → slice_get a.memories b ≡ Some memory
       → memory.cells ≡ (frame a.bank.image a.bank.stimulus (words_turn a.bank)).words a.bank.port b
   -- what each memory answered at the edge of this turn
   pub outs : a.bank.begun ≡ true → is_edge a.bank.image.units a.bank.turn ≡ true → (b : ℕ) (block : BlockWork) (memory : LaneMemory) → slice_get a.blocks b ≡ Some block → slice_get a.memories b ≡ Some memory
-      → memory.outs ≡ (block_act a.bank.port seat.ins (past_in a.bank).value block ((past_in a.bank).words a.bank.port b)).outputs
+      → memory.outs ≡ (block_act a.bank.port port_image.ins (past_in a.bank).value block ((past_in a.bank).words a.bank.port b)).outputs

@@ -51,8 +51,8 @@ module _ {W P F S : Type 0} (w : word.Ghosts W P F S) where
 
   -- what it keeps: in each lane what a plain one keeps
   pub record IsReady (a : Parts W S) : Type 0 where
-    pub seat : PortImage
-    pub is : IsPort a.bank.image a.bank.port seat
-    pub work : seat.work ≡ Array a.blocks a.bits
+    pub port_image : PortImage
+    pub is : IsPort a.bank.image a.bank.port port_image
+    pub work : port_image.work ≡ Array a.blocks a.bits
     pub whole : AreWhole a.blocks a.memories
     pub each : (l : ℕ) → l < w.lanes → plain.IsReady (lane_array l a)

@@ -53,8 +53,8 @@ impl<'a, W: Laned> ArrayPort<'a, W> {
         requires array { IsPortOf image.now port IsArray }
         ensures { IfOk result (λ made. made ≡ at_first image.now stim.now port) }
     {
-        let seat = &image.ports.as_slice()[port as usize];
-        match &seat.work {
+        let port_image = &image.ports.as_slice()[port as usize];
+        match &port_image.work {
             Work::Logic { .. } => unreachable!(),
             Work::Array { blocks, outs } => {
                 let memories = make_memories(alloc, blocks.as_slice(), initial_value(image.init))?;

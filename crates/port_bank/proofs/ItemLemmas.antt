@@ -16,7 +16,7 @@ module _ (old : PortView) (slots : List ℕ) (from to : ℕ) (can : CanRun old s
   pub can_execute : CanExecute now (get_or slots i 0)
   can_execute = subst (λ (view : PortView). CanExecute view (get_or slots i 0)) (sym run) (record {
     begun = can.begun;
-    port = can.seat;
+    port = can.port_image;
     is = can.is;
     next = subst (λ xs. slice_get xs i ≡ Some (get_or slots i 0)) can.slots_are there;
     received_before = λ j link at before. can.received_before i (get_or slots i 0) j link below there at before;
@@ -25,11 +25,11 @@ module _ (old : PortView) (slots : List ℕ) (from to : ℕ) (can : CanRun old s
   -- its value is then that of the last one
   pub last_executed : (new : PortView) (v : V4) → new ≡ after_execute now → v ≡ value_in now (get_or slots i 0) → IsLastValue new v
   last_executed new v after is = record {
-    each = λ seat k slot at next item.
+    each = λ port_image k slot at next item.
         let new_is : new ≡ record old { executed = i + 1 } = after ∙ ap after_execute run in
-        let seat_is : can.seat ≡ seat = one_there old.image.ports old.port old.port can.seat seat refl can.is (subst (λ (v : PortView). IsPort v.image v.port seat) new_is at) in
+        let port_image_is : can.port_image ≡ port_image = one_there old.image.ports old.port old.port can.port_image port_image refl can.is (subst (λ (v : PortView). IsPort v.image v.port port_image) new_is at) in
         let place : k ≡ i = omega (arith, next, ap (λ (v : PortView). v.executed) new_is) in
-        let slot_is : get_or slots i 0 ≡ slot = one_there slots i k (get_or slots i 0) slot (sym place) there (subst (λ xs. slice_get xs k ≡ Some slot) (sym (can.slots_are ∙ ap (λ (s : PortImage). item_slots s.work) seat_is)) item) in
+        let slot_is : get_or slots i 0 ≡ slot = one_there slots i k (get_or slots i 0) slot (sym place) there (subst (λ xs. slice_get xs k ≡ Some slot) (sym (can.slots_are ∙ ap (λ (s : PortImage). item_slots s.work) port_image_is)) item) in
         is
         ∙ ap (λ (v : PortView). value_in v (get_or slots i 0)) run
         ∙ ap (value_in old) slot_is

@@ -10,13 +10,13 @@ use Rattle.image_defs.specs.Ports.{View, PortView, value_in}
 -- comes in the slots before theirs is received
 pub record CanRun (view : PortView) (slots : List ℕ) (from to : ℕ) : Type 0 where
   pub begun : view.begun ≡ true
-  pub seat : PortImage
-  pub is : IsPort view.image view.port seat
-  pub slots_are : slots ≡ item_slots seat.work
+  pub port_image : PortImage
+  pub is : IsPort view.image view.port port_image
+  pub slots_are : slots ≡ item_slots port_image.work
   pub from_is : view.executed ≡ from
   pub order : from ≤ to
   pub within : to ≤ length slots
-  pub received_before : (k slot i : ℕ) (link : LinkIn) → k < to → slice_get slots k ≡ Some slot → slice_get seat.ins i ≡ Some link → link.slot < slot → i < view.received
+  pub received_before : (k slot i : ℕ) (link : LinkIn) → k < to → slice_get slots k ≡ Some slot → slice_get port_image.ins i ≡ Some link → link.slot < slot → i < view.received
 
 -- the items up to number `to` are executed, and nothing else is changed
 abbrev pub HasRun : {S : Type 0} → View S → View S → ℕ → Type 0
@@ -24,7 +24,7 @@ HasRun old new to = new ≡ record old { executed = to }
 
 -- where an item is executed this turn, this is the value of the last one
 pub record IsLastValue (view : PortView) (value : V4) : Type 0 where
-  pub each : (seat : PortImage) (i slot : ℕ) → IsPort view.image view.port seat → i + 1 ≡ view.executed → IsItemIn seat.work i slot → value ≡ value_in view slot
+  pub each : (port_image : PortImage) (i slot : ℕ) → IsPort view.image view.port port_image → i + 1 ≡ view.executed → IsItemIn port_image.work i slot → value ≡ value_in view slot
 
 -- of a host that keeps at most so many rows (the first number), and has given up so many (the second): the rows that
 -- are done once it has ended its turn, less those given up, are no more than it keeps. Another port needs no room

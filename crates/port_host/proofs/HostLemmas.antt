@@ -39,28 +39,28 @@ work_right : (image : Image) (p : ℕ) (port : PortImage) (inputs : List InColum
 work_right image p port inputs printed fits is work = subst (IsWork image.columns port) work (fits.ports p port is).work
 
 same_work : (a : Inside) (port : PortImage) → IsReady a → IsPort a.bank.image a.bank.port port → port.work ≡ Host a.inputs.now a.printed.now
-same_work a port ready is = let here = ready.is in let same : ready.seat ≡ port = cc in subst (λ q. q.work ≡ Host a.inputs.now a.printed.now) same ready.work
+same_work a port ready is = let here = ready.is in let same : ready.port_image ≡ port = cc in subst (λ q. q.work ≡ Host a.inputs.now a.printed.now) same ready.work
 
 pub printed_within : (a : Inside) → IsReady a → Each (IsWithin a.bank.image.slots) a.printed.now
 printed_within a ready j source there =
-    let right : IsPresent ready.seat source = (work_right a.bank.image a.bank.port ready.seat a.inputs.now a.printed.now ready.image ready.is ready.work).1 j source there in
-    there_within a.bank.image a.bank.port ready.seat source ready.image ready.is right.there
+    let right : IsPresent ready.port_image source = (work_right a.bank.image a.bank.port ready.port_image a.inputs.now a.printed.now ready.image ready.is ready.work).1 j source there in
+    there_within a.bank.image a.bank.port ready.port_image source ready.image ready.is right.there
 
 -- ---- before the first turn
 
-pub host_found : (image : Image) (count : ℕ) (seat : PortImage) (ports : List PortImage) → IsWellFormed image → ports ≡ image.ports → count ≡ length image.ports → seat ≡ get_or ports (count - 1) seat
-    → IsPort image (host_of image) seat
-host_found image count seat ports fits whole counted there =
-    slice_get_read image.ports (length image.ports) (host_of image) seat refl (omega (arith, fits.some_ports)) (there ∙ ap (λ xs. get_or xs (count - 1) seat) whole ∙ ap (λ n. get_or image.ports (n - 1) seat) counted)
+pub host_found : (image : Image) (count : ℕ) (port_image : PortImage) (ports : List PortImage) → IsWellFormed image → ports ≡ image.ports → count ≡ length image.ports → port_image ≡ get_or ports (count - 1) port_image
+    → IsPort image (host_of image) port_image
+host_found image count port_image ports fits whole counted there =
+    slice_get_read image.ports (length image.ports) (host_of image) port_image refl (omega (arith, fits.some_ports)) (there ∙ ap (λ xs. get_or xs (count - 1) port_image) whole ∙ ap (λ n. get_or image.ports (n - 1) port_image) counted)
 
 pub room_made : (cells : List V4) (window count : ℕ) (printed : List Source) → length cells ≡ window * count → count ≡ length printed → length cells ≡ window * length printed
 room_made cells window count printed room width = room ∙ ap (λ n. window * n) width
 
-pub ready_first : (a : Inside) (image : Image) (stimulus : Stimulus) (seat : PortImage) → a.bank ≡ at_first image stimulus (host_of image)
-    → IsWellFormed image → IsValidStimulus stimulus → stimulus.columns ≡ image.columns → IsPort image (host_of image) seat → seat.work ≡ Host a.inputs.now a.printed.now
+pub ready_first : (a : Inside) (image : Image) (stimulus : Stimulus) (port_image : PortImage) → a.bank ≡ at_first image stimulus (host_of image)
+    → IsWellFormed image → IsValidStimulus stimulus → stimulus.columns ≡ image.columns → IsPort image (host_of image) port_image → port_image.work ≡ Host a.inputs.now a.printed.now
     → a.stim.now ≡ stimulus → a.units ≡ image.units → a.first_row ≡ 0
     → ((units : ℕ) → 0 < units → IsOn stimulus units a.progress) → ((units : ℕ) → turn_of units a.progress ≡ 1) → length a.cells ≡ a.window * length a.printed.now → IsReady a
-ready_first a image stimulus seat bank fits valid columns is work stim units none on first room =
+ready_first a image stimulus port_image bank fits valid columns is work stim units none on first room =
     let no_rows : a.progress.rows ≡ 0 = omega (arith, first 1) in record {
       image = subst (λ view. IsWellFormed view.image) (sym bank) fits;
       stimulus = subst IsValidStimulus (sym stim) valid;
@@ -68,8 +68,8 @@ ready_first a image stimulus seat bank fits valid columns is work stim units non
       stimulus_is = ap (λ view. view.stimulus) bank ∙ sym stim;
       units_is = units ∙ ap (λ view. view.image.units) (sym bank);
       host = subst (λ view. view.port ≡ host_of view.image) (sym bank) refl;
-      seat = seat;
-      is = subst (λ view. IsPort view.image view.port seat) (sym bank) is;
+      port_image = port_image;
+      is = subst (λ view. IsPort view.image view.port port_image) (sym bank) is;
       work = work;
       running = λ begun. absurd (not_begun (ap (λ view. view.begun) (sym bank) ∙ begun));
       turn = ap (λ view. view.turn) bank ∙ sym (first a.units);
@@ -110,7 +110,7 @@ next_input a slot i d ready can same = of_input (at_map (λ input. input.slot) a
       record {
         there = here;
         low = subst (λ n. (get_or a.inputs.now i d).column < n) (sym ready.columns)
-            ((work_right a.bank.image a.bank.port ready.seat a.inputs.now a.printed.now ready.image ready.is ready.work).0 a.bank.executed (get_or a.inputs.now i d) here);
+            ((work_right a.bank.image a.bank.port ready.port_image a.inputs.now a.printed.now ready.image ready.is ready.work).0 a.bank.executed (get_or a.inputs.now i d) here);
       }
 
 pub rows_here : (a : Inside) → IsReady a → rows_done a.bank ≡ a.progress.rows
@@ -164,28 +164,28 @@ present_taken p ins old new port (Got s last) present = ap (λ l. source_value p
 present_taken p ins old new port (Const v) present = refl
 
 -- what the image prints, by its host
-printed_is : (image : Image) (values : Grid) (p j : ℕ) (seat : PortImage) (source : Source) → p ≡ host_of image → IsPort image p seat → slice_get (printed_of seat.work) j ≡ Some source
-    → printed_value image values j ≡ source_value p seat.ins values values source
-printed_is image values p j seat source host is there =
+printed_is : (image : Image) (values : Grid) (p j : ℕ) (port_image : PortImage) (source : Source) → p ≡ host_of image → IsPort image p port_image → slice_get (printed_of port_image.work) j ≡ Some source
+    → printed_value image values j ≡ source_value p port_image.ins values values source
+printed_is image values p j port_image source host is there =
     ap (value_of_member (λ port. value_of_member (source_value (host_of image) port.ins values values) (slice_get (printed_of port.work) j))) (ap (slice_get image.ports) (sym host) ∙ is)
-    ∙ ap (value_of_member (source_value (host_of image) seat.ins values values)) there
-    ∙ ap (λ q. source_value q seat.ins values values source) (sym host)
+    ∙ ap (value_of_member (source_value (host_of image) port_image.ins values values)) there
+    ∙ ap (λ q. source_value q port_image.ins values values source) (sym host)
 
 -- the row of the cycle, once it is printed
 module _ (a : Inside) (cells : List V4) (ready : IsReady a) (can : CanEnd a.bank) (last : a.progress.unit + 1 ≡ a.units)
     (kept : HasPrinted a.bank a.printed.now (length a.printed.now) (row_start (a.progress.rows - a.first_row) (length a.printed.now)) a.cells cells) where
-  seat_is : can.port ≡ ready.seat
-  seat_is = let here = ready.is in let there = can.is in cc
+  port_image_is : can.port ≡ ready.port_image
+  port_image_is = let here = ready.is in let there = can.is in cc
 
   source_here : (j : ℕ) (source : Source) → j < length a.printed.now → slice_get a.printed.now j ≡ Some source
       → value_at cells (row_start (a.progress.rows - a.first_row) (length a.printed.now) + j) ≡ shown a.bank.image a.bank.stimulus (a.progress.rows + 1) j
   source_here j source low there =
-      let right : IsPresent ready.seat source = (work_right a.bank.image a.bank.port ready.seat a.inputs.now a.printed.now ready.image ready.is ready.work).1 j source there in
-      let items : a.bank.executed ≡ length (item_slots ready.seat.work) = can.executed_all ∙ ap (λ q. length (item_slots q.work)) seat_is in
-      let receipts : a.bank.received ≡ length ready.seat.ins = can.received_all ∙ ap (λ q. length q.ins) seat_is in
-      kept.printed j source low there ready.seat ready.is (present_at_hand a.bank ready.seat source items receipts right)
-      ∙ present_taken a.bank.port ready.seat.ins (past_in a.bank).value (now_in a.bank).value ready.seat source right
-      ∙ sym (printed_is a.bank.image (now_in a.bank).value a.bank.port j ready.seat source ready.host ready.is (ap (λ work. slice_get (printed_of work) j) ready.work ∙ there))
+      let right : IsPresent ready.port_image source = (work_right a.bank.image a.bank.port ready.port_image a.inputs.now a.printed.now ready.image ready.is ready.work).1 j source there in
+      let items : a.bank.executed ≡ length (item_slots ready.port_image.work) = can.executed_all ∙ ap (λ q. length (item_slots q.work)) port_image_is in
+      let receipts : a.bank.received ≡ length ready.port_image.ins = can.received_all ∙ ap (λ q. length q.ins) port_image_is in
+      kept.printed j source low there ready.port_image ready.is (present_at_hand a.bank ready.port_image source items receipts right)
+      ∙ present_taken a.bank.port ready.port_image.ins (past_in a.bank).value (now_in a.bank).value ready.port_image source right
+      ∙ sym (printed_is a.bank.image (now_in a.bank).value a.bank.port j ready.port_image source ready.host ready.is (ap (λ work. slice_get (printed_of work) j) ready.work ∙ there))
       ∙ ap (λ t. printed_value a.bank.image (frame a.bank.image a.bank.stimulus t).value j) (last_turn_is a ready last)
 
   row_kept : HasRows (a.progress.rows - a.first_row + 1) (length a.printed.now) (λ c. shown a.bank.image a.bank.stimulus (a.first_row + c)) cells
@@ -221,7 +221,7 @@ ready_ended a cells progress bank ready can room kept same on more is =
       stimulus_is = ready.stimulus_is;
       units_is = ready.units_is;
       host = ready.host;
-      seat = ready.seat;
+      port_image = ready.port_image;
       is = ready.is;
       work = ready.work;
       running = λ begun. cc;
@@ -256,7 +256,7 @@ ready_given_up a ready = record {
   stimulus_is = ready.stimulus_is;
   units_is = ready.units_is;
   host = ready.host;
-  seat = ready.seat;
+  port_image = ready.port_image;
   is = ready.is;
   work = ready.work;
   running = ready.running;

@@ -20,9 +20,9 @@ pub record IsReady (a : Inside) : Type 0 where
   pub stimulus_is : a.bank.stimulus ≡ a.stim.now
   pub units_is : a.units ≡ a.bank.image.units
   pub host : a.bank.port ≡ host_of a.bank.image
-  pub seat : PortImage
-  pub is : IsPort a.bank.image a.bank.port seat
-  pub work : seat.work ≡ Host a.inputs.now a.printed.now
+  pub port_image : PortImage
+  pub is : IsPort a.bank.image a.bank.port port_image
+  pub work : port_image.work ≡ Host a.inputs.now a.printed.now
   pub running : a.bank.begun ≡ true → a.bank.turn ≤ last_turn a.bank
   pub turn : a.bank.turn ≡ turn_of a.units a.progress
   pub on : IsOn a.stim.now a.units a.progress

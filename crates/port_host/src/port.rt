@@ -63,8 +63,8 @@ impl<'a> HostPort<'a> {
         ensures { IfOk result (λ made. made ≡ host_at_first image.now stim.now window) }
     {
         let port = image.ports.len() - 1;
-        let seat = &image.ports.as_slice()[port];
-        match &seat.work {
+        let port_image = &image.ports.as_slice()[port];
+        match &port_image.work {
             Work::Logic { .. } => unreachable!(),
             Work::Array { .. } => unreachable!(),
             Work::Host { inputs, printed } => {

@@ -79,10 +79,10 @@ next_task view slot tables tasks fits can work = of_task (at_map task_slot tasks
 
 -- before its first turn
 pub ready_first : {P F S : Type 0} (is_pair : Table → V4 → V4 → P → Type 0) (is_form : Table → F → Type 0) (bank : View S) (tables : List Table) (tasks : List Task) (ops : List (Op P F))
-    (image : Image) (stimulus : S) (p : ℕ) (seat : PortImage) → bank ≡ at_first image stimulus p → IsWellFormed image → IsPort image p seat → seat.work ≡ Logic tables tasks
+    (image : Image) (stimulus : S) (p : ℕ) (port_image : PortImage) → bank ≡ at_first image stimulus p → IsWellFormed image → IsPort image p port_image → port_image.work ≡ Logic tables tasks
     → AreOps is_pair is_form image.slots tables tasks ops → IsReady is_pair is_form bank tables tasks ops
-ready_first is_pair is_form bank tables tasks ops image stimulus p seat first fits is work flat =
-    subst (λ b. IsReady is_pair is_form b tables tasks ops) (sym first) (record { image = fits; first = omega arith; seat = seat; is = is; work = work; flat = flat })
+ready_first is_pair is_form bank tables tasks ops image stimulus p port_image first fits is work flat =
+    subst (λ b. IsReady is_pair is_form b tables tasks ops) (sym first) (record { image = fits; first = omega arith; port_image = port_image; is = is; work = work; flat = flat })
 
 module _ {W P F S : Type 0} (lanes : ℕ) (some : 0 < lanes) (lane : W → ℕ → V4) (stimulus : ℕ → S → ℕ → Stimulus) (is_pair : Table → V4 → V4 → P → Type 0) (is_form : Table → F → Type 0)
     (bank : View S) (tables : List Table) (tasks : List Task) (ops : List (Op P F)) (ready : IsReady is_pair is_form bank tables tasks ops)
@@ -91,7 +91,7 @@ module _ {W P F S : Type 0} (lanes : ℕ) (some : 0 < lanes) (lane : W → ℕ �
   can_in = in_lane lanes (λ l. CanExecute (lane_port stimulus l bank) slot) each
 
   same_work : (port : PortImage) → IsPort bank.image bank.port port → port.work ≡ Logic tables tasks
-  same_work port is = let same : ready.seat ≡ port = cc in subst (λ q. q.work ≡ Logic tables tasks) same ready.work
+  same_work port is = let same : ready.port_image ≡ port = cc in subst (λ q. q.work ≡ Logic tables tasks) same ready.work
 
   next_in : (l : ℕ) (low : l < lanes) → IsNext tables tasks (can_in l low).port bank.executed slot
   next_in l low = next_task (lane_port stimulus l bank) slot tables tasks ready.image (can_in l low) (same_work (can_in l low).port (can_in l low).is)

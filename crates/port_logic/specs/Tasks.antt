@@ -15,7 +15,7 @@ use Rattle.port_logic.specs.Ops.{AreOps}
 pub record IsReady {P F S : Type 0} (is_pair : Table → V4 → V4 → P → Type 0) (is_form : Table → F → Type 0) (bank : View S) (tables : List Table) (tasks : List Task) (ops : List (Op P F)) : Type 0 where
   pub image : IsWellFormed bank.image
   pub first : 1 ≤ bank.turn
-  pub seat : PortImage
-  pub is : IsPort bank.image bank.port seat
-  pub work : seat.work ≡ Logic tables tasks
+  pub port_image : PortImage
+  pub is : IsPort bank.image bank.port port_image
+  pub work : port_image.work ≡ Logic tables tasks
   pub flat : AreOps is_pair is_form bank.image.slots tables tasks ops

@@ -93,8 +93,8 @@ impl<'a, W: Word> LogicPort<'a, W> {
         requires logic { IsPortOf image.now port IsLogic }
         ensures { IfOk result (λ made. made ≡ at_first image.now stim.now port) }
     {
-        let seat = &image.ports.as_slice()[port as usize];
-        match &seat.work {
+        let port_image = &image.ports.as_slice()[port as usize];
+        match &port_image.work {
             Work::Logic { tables, tasks } => {
                 let tables = tables.as_slice();
                 let tasks = tasks.as_slice();

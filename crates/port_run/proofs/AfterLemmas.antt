@@ -67,15 +67,15 @@ module _ (words : List ℕ) (views : List PlainView) (id p : ℕ) (old : PlainVi
       claimed = subst (λ ws. progress_in ws p ≢ free) (sym same) claimed;
     }
 
-    module _ (seat : PortImage) (at : IsPort old.image p seat) (word number : ℕ) where
+    module _ (port_image : PortImage) (at : IsPort old.image p port_image) (word number : ℕ) where
       begun : 1 ≤ (state.place p).turn
-      begun = (is.sound.paced.places p seat at).begun
+      begun = (is.sound.paced.places p port_image at).begun
 
       -- a Put: the word that has what was put afterwards is the one that was written, since it had a turn before
-      module _ (i : ℕ) (link : LinkOut) (sends : SendsNext seat (state.place p).puts (state.place p).takes i link) (x : ℕ) (stamp : stamp_of x ≡ (state.place p).turn)
+      module _ (i : ℕ) (link : LinkOut) (sends : SendsNext port_image (state.place p).puts (state.place p).takes i link) (x : ℕ) (stamp : stamp_of x ≡ (state.place p).turn)
           (told : get_or (set words word number) (send_word old.image old.banks p i ((state.place p).turn % old.banks)) 0 ≡ x) where
         send : IsSend old.image p i link
-        send = record { port = seat; is = at; link_is = sends.is }
+        send = record { port = port_image; is = at; link_is = sends.is }
 
         abbrev bank : ℕ
         bank = (state.place p).turn % old.banks
@@ -148,7 +148,7 @@ module _ (words : List ℕ) (views : List PlainView) (id p : ℕ) (old : PlainVi
 
       module _ (table : TableId) (new : PlainView) (after : CoreState) where
         -- the words afterwards, by the core's step and by the word that the step named
-        made_words : (event : Event) → Makes seat (pass_in table p old) (pass_in table p new) event → Moves old.image old.banks p seat state old.feed event after
+        made_words : (event : Event) → Makes port_image (pass_in table p old) (pass_in table p new) event → Moves old.image old.banks p port_image state old.feed event after
             → (is_look event ≡ true → set words word number ≡ words) → told_in old.image (set words word number) new.last.word ≡ new.last.number → HasWords old.image old.banks p free (set words word number) after
         made_words (Ask reader) makes moves still told = subst (HasWords old.image old.banks p free (set words word number)) (sym moves.is) (looked (set words word number) _ (still refl))
         made_words (Take slot) makes moves still told = subst (HasWords old.image old.banks p free (set words word number)) (sym moves.is) (looked (set words word number) _ (still refl))
@@ -161,7 +161,7 @@ module _ (words : List ℕ) (views : List PlainView) (id p : ℕ) (old : PlainVi
             let turn : ℕ = (state.place p).turn in
             let value : ℕ = 4 * turn + code_of (image_value old.image old.feed turn p slot) in
             let twin = same_send old.image kept.runs.image_fits p makes.next.i moves.next.i makes.next.link moves.next.link
-            (record { port = seat; is = at; link_is = makes.next.sends.is }) (record { port = seat; is = at; link_is = moves.next.sends.is }) (makes.next.slot_is ∙ sym moves.next.slot_is) in
+            (record { port = port_image; is = at; link_is = makes.next.sends.is }) (record { port = port_image; is = at; link_is = moves.next.sends.is }) (makes.next.slot_is ∙ sym moves.next.slot_is) in
             let word_is : new.last.word ≡ send_word old.image old.banks p moves.next.i (turn % old.banks) =
             ap (λ (x : PassView). x.last.word) makes.is ∙ (ap (λ i. send_word old.image old.banks p i (old.place.turn % old.banks)) twin.0
             ∙ ap (λ (a : Place). send_word old.image old.banks p moves.next.i (a.turn % old.banks)) (sym here_is)) in
@@ -171,7 +171,7 @@ module _ (words : List ℕ) (views : List PlainView) (id p : ℕ) (old : PlainVi
             (sym (told_sent old.image old.banks (set words word number) p moves.next.i (turn % old.banks)) ∙ (ap (told_in old.image (set words word number)) (sym word_is) ∙ (told ∙ number_is))) _)
 
         -- the other ports stand where they stood
-        others_stand : (event : Event) → Moves old.image old.banks p seat state old.feed event after → (q : ℕ) → q ≢ p → after.place q ≡ state.place q
+        others_stand : (event : Event) → Moves old.image old.banks p port_image state old.feed event after → (q : ℕ) → q ≢ p → after.place q ≡ state.place q
         others_stand (Ask reader) moves q other = ap (λ (s : CoreState). s.place q) moves.is ∙ updated_there state.place p q _ other
         others_stand (Put slot) moves q other = ap (λ (s : CoreState). s.place q) moves.is ∙ updated_there state.place p q _ other
         others_stand (Take slot) moves q other = ap (λ (s : CoreState). s.place q) moves.is ∙ updated_there state.place p q _ other
@@ -196,19 +196,19 @@ module _ (words : List ℕ) (views : List PlainView) (id p : ℕ) (old : PlainVi
         → (is_look event ≡ true → set words word number ≡ words) → told_in old.image (set words word number) new.last.word ≡ new.last.number
         → IsStateIn old.image old.feed old.banks (set words word number) (set views id new) core.after
     after_there until event made core still told =
-        let seat : PortImage = core.step.seat in
-        let at : IsPort old.image p seat = core.step.is in
-        let makes : Makes seat (pass_in table p old) (pass_in table p new) event = subst (λ s. Makes s (pass_in table p old) (pass_in table p new) event) (same_port old.image p made.seat seat made.is at) made.makes in
-        let has = made_words _ told_none mine.claimed seat at word number table new core.after event makes core.step.step.1 still told in
+        let port_image : PortImage = core.step.port_image in
+        let at : IsPort old.image p port_image = core.step.is in
+        let makes : Makes port_image (pass_in table p old) (pass_in table p new) event = subst (λ s. Makes s (pass_in table p old) (pass_in table p new) event) (same_port old.image p made.port_image port_image made.is at) made.makes in
+        let has = made_words _ told_none mine.claimed port_image at word number table new core.after event makes core.step.step.1 still told in
         record {
-          sound = step_sound old.image old.feed old.banks (turns_of old.image old.feed) kept.runs.image_fits kept.runs.some state is.sound p seat at (Moved event) core.after core.step.step;
+          sound = step_sound old.image old.feed old.banks (turns_of old.image old.feed) kept.runs.image_fits kept.runs.some state is.sound p port_image at (Moved event) core.after core.step.step;
           finished = has.finished;
           word = has.word;
           stands = λ other q v here port. elim (at_set views id other new v here) [
             | inl t ↦
-                let same : Some p ≡ Some q = sym (same_seat (now.owned.seen p mine.inside has.claimed)) ∙ (ap (λ (v : PlainView). v.port) t.1 ∙ port) in
+                let same : Some p ≡ Some q = sym (same_port_image (now.owned.seen p mine.inside has.claimed)) ∙ (ap (λ (v : PlainView). v.port) t.1 ∙ port) in
                 let same_q : p ≡ q = cc in
                 subst (λ q. core.after.place q ≡ v.place) same_q (core.stands ∙ ap (λ (v : PlainView). v.place) t.1)
-            | inr t ↦ others_stand _ told_none mine.claimed seat at word number table new core.after event core.step.step.1 q (other_port other q v t.1 port t.0) ∙ is.stands other q v t.1 port
+            | inr t ↦ others_stand _ told_none mine.claimed port_image at word number table new core.after event core.step.step.1 q (other_port other q v t.1 port t.0) ∙ is.stands other q v t.1 port
           ];
         }

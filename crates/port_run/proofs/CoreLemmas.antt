@@ -35,9 +35,9 @@ module _ (old : PassView) (fit : IsFit old) (state : CoreState) (stands : Stands
   placed : (f : Place → Place) (new : PassView) (after : CoreState) → after.place ≡ updated state.place old.port (f (state.place old.port)) → new.place ≡ f old.place → StandsIn (record old { place = new.place }) after
   placed f new after after_is new_is = ap (λ g. g old.port) after_is ∙ (updated_here state.place old.port (f (state.place old.port)) ∙ (ap f stands ∙ sym new_is))
 
-  module _ (seat : PortImage) (is : IsPort old.image old.port seat) (turns : ℕ) (early : old.place.turn ≤ turns) (new : PassView) where
-    event_by : (e : Event) (after : CoreState) → Moves old.image old.banks old.port seat state old.feed e after → StandsIn new after → Shows old after new.last → IsCoreEvent turns old e new state
-    event_by e after moves stands_there shows = record { after = after; step = record { seat = seat; is = is; step = (here (λ a. a.turn ≤ turns) early, moves) }; stands = stands_there; shows = shows }
+  module _ (port_image : PortImage) (is : IsPort old.image old.port port_image) (turns : ℕ) (early : old.place.turn ≤ turns) (new : PassView) where
+    event_by : (e : Event) (after : CoreState) → Moves old.image old.banks old.port port_image state old.feed e after → StandsIn new after → Shows old after new.last → IsCoreEvent turns old e new state
+    event_by e after moves stands_there shows = record { after = after; step = record { port_image = port_image; is = is; step = (here (λ a. a.turn ≤ turns) early, moves) }; stands = stands_there; shows = shows }
 
     -- no progress word is one of a send
     progress_apart : (r p i b : ℕ) → r < length old.image.ports → progress_word r ≡ send_word old.image old.banks p i b → ⊥
@@ -53,20 +53,20 @@ module _ (old : PassView) (fit : IsFit old) (state : CoreState) (stands : Stands
     same_port_stands port_is after at = ap after.place port_is ∙ at
 
     -- what the state has in the word that was looked at
-    finished_is : (reader : ℕ) → AsksNext seat old.place old.banks reader → new.last.word ≡ progress_word reader → Shows old state new.last → state.finished reader ≡ new.last.number
-    finished_is reader next word shows = shows.progress reader (asked_in old.image fit.runs.image_fits old.port seat is old.place old.banks reader next) word
+    finished_is : (reader : ℕ) → AsksNext port_image old.place old.banks reader → new.last.word ≡ progress_word reader → Shows old state new.last → state.finished reader ≡ new.last.number
+    finished_is reader next word shows = shows.progress reader (asked_in old.image fit.runs.image_fits old.port port_image is old.place old.banks reader next) word
 
-    word_is : (slot : ℕ) (place : Place) (looks : Looks seat old new slot place) → Shows old state new.last → state.word looks.next.link.sender looks.i ((state.place old.port).turn % old.banks) ≡ new.last.number
+    word_is : (slot : ℕ) (place : Place) (looks : Looks port_image old new slot place) → Shows old state new.last → state.word looks.next.link.sender looks.i ((state.place old.port).turn % old.banks) ≡ new.last.number
     word_is slot place looks shows =
         ap (λ (a : Place). state.word looks.next.link.sender looks.i (a.turn % old.banks)) stands
         ∙ shows.sent looks.next.link.sender looks.i (old.place.turn % old.banks) looks.source.sent looks.source.send (mod-lt old.place.turn fit.runs.some) (ap (λ (x : PassView). x.last.word) looks.is)
 
-    reads : (slot : ℕ) (place : Place) (looks : Looks seat old new slot place) → Reads old.image old.banks old.port seat state slot (state.word looks.next.link.sender looks.i ((state.place old.port).turn % old.banks))
+    reads : (slot : ℕ) (place : Place) (looks : Looks port_image old new slot place) → Reads old.image old.banks old.port port_image state slot (state.word looks.next.link.sender looks.i ((state.place old.port).turn % old.banks))
     reads slot place looks = record {
       j = looks.next.j;
       link = looks.next.link;
       slot_is = looks.next.slot_is;
-      receives = here (λ a. ReceivesNext seat a.puts a.takes looks.next.j looks.next.link) looks.next.receives;
+      receives = here (λ a. ReceivesNext port_image a.puts a.takes looks.next.j looks.next.link) looks.next.receives;
       i = looks.i;
       sent = looks.source.sent;
       send = looks.source.send;
@@ -74,12 +74,12 @@ module _ (old : PassView) (fit : IsFit old) (state : CoreState) (stands : Stands
       word = refl;
     }
 
-    asks_event : (reader : ℕ) → HasAsked seat old new reader → Shows old state new.last → IsCoreEvent turns old (Ask reader) new state
+    asks_event : (reader : ℕ) → HasAsked port_image old new reader → Shows old state new.last → IsCoreEvent turns old (Ask reader) new state
     asks_event reader has shows =
         let found = finished_is reader has.asks.next (ap (λ (x : PassView). x.last.word) has.asks.is) shows in
         let after : CoreState = record state { place = updated state.place old.port (after_ask (state.place old.port) reader (state.finished reader)) } in
         event_by (Ask reader) after (record {
-          next = here (λ a. AsksNext seat a old.banks reader) has.asks.next;
+          next = here (λ a. AsksNext port_image a old.banks reader) has.asks.next;
           moves = here (λ a. a.turn ≤ state.finished reader + old.banks) (subst (λ n. old.place.turn ≤ n + old.banks) (sym found) has.enough);
           is = refl;
         }) (same_port_stands (ap (λ (x : PassView). x.port) has.asks.is) after
@@ -87,7 +87,7 @@ module _ (old : PassView) (fit : IsFit old) (state : CoreState) (stands : Stands
         (record { progress = shows.progress; sent = shows.sent })
 
     -- the words after a Put: that of this turn has what was put
-    put_shows : (slot : ℕ) (puts : Puts seat old new slot) (place : ℕ → Place) → Shows old (record {
+    put_shows : (slot : ℕ) (puts : Puts port_image old new slot) (place : ℕ → Place) → Shows old (record {
       place = place;
       finished = state.finished;
       word = written state.word old.port puts.next.i ((state.place old.port).turn % old.banks) (4 * (state.place old.port).turn + code_of (image_value old.image old.feed (state.place old.port).turn old.port slot));
@@ -95,7 +95,7 @@ module _ (old : PassView) (fit : IsFit old) (state : CoreState) (stands : Stands
     put_shows slot puts place = record {
       progress = λ r inside at. absurd (progress_apart r old.port puts.next.i (old.place.turn % old.banks) inside (sym at ∙ look_word));
       sent = λ q k b link send b_in at.
-          let own : IsSend old.image old.port puts.next.i puts.next.link = record { port = seat; is = is; link_is = puts.next.sends.is } in
+          let own : IsSend old.image old.port puts.next.i puts.next.link = record { port = port_image; is = is; link_is = puts.next.sends.is } in
           let twin = same_places old.image old.banks old.port puts.next.i q k (old.place.turn % old.banks) b puts.next.link link own send (mod-lt old.place.turn fit.runs.some) b_in (sym look_word ∙ at) in
           subst (λ q. word q k b ≡ new.last.number) twin.0 (subst (λ k. word old.port k b ≡ new.last.number) twin.1 (subst (λ b. word old.port puts.next.i b ≡ new.last.number) twin.2 here_is));
     } where
@@ -118,13 +118,13 @@ module _ (old : PassView) (fit : IsFit old) (state : CoreState) (stands : Stands
       here_is = subst (λ t. word old.port puts.next.i (t % old.banks) ≡ new.last.number) turn_is
           (at_own ∙ (ap (λ t. 4 * t + code_of (image_value old.image old.feed t old.port slot)) turn_is ∙ sym (ap (λ (x : PassView). x.last.number) puts.is)))
 
-    puts_event : (slot : ℕ) → Puts seat old new slot → IsCoreEvent turns old (Put slot) new state
+    puts_event : (slot : ℕ) → Puts port_image old new slot → IsCoreEvent turns old (Put slot) new state
     puts_event slot puts =
-        let next : PutsNext seat (state.place old.port) old.banks slot = record {
+        let next : PutsNext port_image (state.place old.port) old.banks slot = record {
           i = puts.next.i;
           link = puts.next.link;
           slot_is = puts.next.slot_is;
-          sends = here (λ a. SendsNext seat a.puts a.takes puts.next.i puts.next.link) puts.next.sends;
+          sends = here (λ a. SendsNext port_image a.puts a.takes puts.next.i puts.next.link) puts.next.sends;
           ready = here (λ a. (r : ℕ) → Stands puts.next.link.readers r → a.turn ≤ known_of a r + old.banks) puts.next.ready;
         } in
         let after : CoreState = record state {
@@ -134,7 +134,7 @@ module _ (old : PassView) (fit : IsFit old) (state : CoreState) (stands : Stands
         event_by (Put slot) after (record { next = next; is = refl }) (same_port_stands (ap (λ (x : PassView). x.port) puts.is) after (placed (λ a. after_put a slot) new after refl (ap (λ (x : PassView). x.place) puts.is)))
         (put_shows slot puts after.place)
 
-    takes_event : (slot : ℕ) → HasTaken seat old new slot → Shows old state new.last → IsCoreEvent turns old (Take slot) new state
+    takes_event : (slot : ℕ) → HasTaken port_image old new slot → Shows old state new.last → IsCoreEvent turns old (Take slot) new state
     takes_event slot has shows =
         let found = word_is slot (after_take old.place slot) has.looks shows in
         let after : CoreState = record state { place = updated state.place old.port (after_take (state.place old.port) slot) } in
@@ -147,7 +147,7 @@ module _ (old : PassView) (fit : IsFit old) (state : CoreState) (stands : Stands
         (record { progress = shows.progress; sent = shows.sent })
 
     -- the words after a Tell: the port's progress word has the turn that is over
-    tell_shows : (tells : Tells seat old new) (place : ℕ → Place) → Shows old (record { place = place; finished = updated state.finished old.port (state.place old.port).turn; word = state.word }) new.last
+    tell_shows : (tells : Tells port_image old new) (place : ℕ → Place) → Shows old (record { place = place; finished = updated state.finished old.port (state.place old.port).turn; word = state.word }) new.last
     tell_shows tells place = record {
       progress = λ r inside at. subst (λ r. updated state.finished old.port (state.place old.port).turn r ≡ new.last.number) (sym look_word ∙ at)
           (updated_here state.finished old.port (state.place old.port).turn ∙ (turn_is ∙ sym (ap (λ (x : PassView). x.last.number) tells.is)));
@@ -156,30 +156,30 @@ module _ (old : PassView) (fit : IsFit old) (state : CoreState) (stands : Stands
       look_word : new.last.word ≡ progress_word old.port
       look_word = ap (λ (x : PassView). x.last.word) tells.is
 
-    tells_event : Tells seat old new → IsCoreEvent turns old Tell new state
+    tells_event : Tells port_image old new → IsCoreEvent turns old Tell new state
     tells_event tells =
         let after : CoreState = record state { place = updated state.place old.port (after_tell (state.place old.port)); finished = updated state.finished old.port (state.place old.port).turn } in
-        event_by Tell after (record { next = here (λ a. TellsNext seat a) tells.next; is = refl }) (same_port_stands (ap (λ (x : PassView). x.port) tells.is) after (placed after_tell new after refl (ap (λ (x : PassView). x.place) tells.is)))
+        event_by Tell after (record { next = here (λ a. TellsNext port_image a) tells.next; is = refl }) (same_port_stands (ap (λ (x : PassView). x.port) tells.is) after (placed after_tell new after refl (ap (λ (x : PassView). x.place) tells.is)))
         (tell_shows tells after.place)
 
-    made_event : (e : Event) → Makes seat old new e → (is_look e ≡ true → Shows old state new.last) → IsCoreEvent turns old e new state
+    made_event : (e : Event) → Makes port_image old new e → (is_look e ≡ true → Shows old state new.last) → IsCoreEvent turns old e new state
     made_event (Ask reader) makes shows = asks_event reader makes (shows refl)
     made_event (Put slot) makes shows = puts_event slot makes
     made_event (Take slot) makes shows = takes_event slot makes (shows refl)
     made_event Tell makes shows = tells_event makes
 
-    ask_waits : AskWaits seat old new → Shows old state new.last → Waits old.image old.banks old.port seat state
+    ask_waits : AskWaits port_image old new → Shows old state new.last → Waits old.image old.banks old.port port_image state
     ask_waits waits shows =
         let found = finished_is waits.reader waits.asks.next (ap (λ (x : PassView). x.last.word) waits.asks.is) shows in
         inl (
           waits.reader,
           record {
-            next = here (λ a. AsksNext seat a old.banks waits.reader) waits.asks.next;
+            next = here (λ a. AsksNext port_image a old.banks waits.reader) waits.asks.next;
             less = here (λ a. state.finished waits.reader + old.banks < a.turn) (subst (λ n. n + old.banks < old.place.turn) (sym found) waits.less);
           },
         )
 
-    take_waits : TakeWaits seat old new → Shows old state new.last → Waits old.image old.banks old.port seat state
+    take_waits : TakeWaits port_image old new → Shows old state new.last → Waits old.image old.banks old.port port_image state
     take_waits waits shows =
         let found = word_is waits.slot old.place waits.looks shows in
         inr (
@@ -192,17 +192,17 @@ module _ (old : PassView) (fit : IsFit old) (state : CoreState) (stands : Stands
         )
 
 pub core_event : (until turns : ℕ) (old new : PassView) (e : Event) (state : CoreState) → until ≤ turns → IsFit old → IsEvent until old e new → StandsIn old state → (is_look e ≡ true → Shows old state new.last) → IsCoreEvent turns old e new state
-core_event until turns old new e state few fit made stands shows = made_event old fit state stands made.seat made.is turns (let early = made.early in omega arith) new e made.makes shows
+core_event until turns old new e state few fit made stands shows = made_event old fit state stands made.port_image made.is turns (let early = made.early in omega arith) new e made.makes shows
 
 pub core_wait : (until turns : ℕ) (old new : PassView) (state : CoreState) → until ≤ turns → IsFit old → IsWait until old new → StandsIn old state → Shows old state new.last → IsCoreStep turns old state NotYet state
 core_wait until turns old new state few fit wait stands shows = record {
-  seat = wait.seat;
+  port_image = wait.port_image;
   is = wait.is;
   step = (
     here old fit state stands (λ a. a.turn ≤ turns) early,
     elim wait.waits [
-      | inl ask ↦ ask_waits old fit state stands wait.seat wait.is turns early new ask shows
-      | inr take ↦ take_waits old fit state stands wait.seat wait.is turns early new take shows
+      | inl ask ↦ ask_waits old fit state stands wait.port_image wait.is turns early new ask shows
+      | inr take ↦ take_waits old fit state stands wait.port_image wait.is turns early new take shows
     ],
     refl,
   );
@@ -212,28 +212,28 @@ core_wait until turns old new state few fit wait stands shows = record {
 
 pub core_done : (turns : ℕ) (pass : PassView) (state : CoreState) → IsFit pass → HasMade turns pass → StandsIn pass state → IsCoreStep turns pass state Done state
 core_done turns pass state fit done stands =
-    let seat = member_at pass.image.ports pass.port fit.inside in
-    record { seat = seat.0; is = seat.1; step = (here pass fit state stands (λ a. a.turn ≡ turns + 1) done, refl) }
+    let port_image = member_at pass.image.ports pass.port fit.inside in
+    record { port_image = port_image.0; is = port_image.1; step = (here pass fit state stands (λ a. a.turn ≡ turns + 1) done, refl) }
 
 -- ---- the next event after one that has to wait
 
-module _ (until : ℕ) (old new : PassView) (seat : PortImage) (fit : IsFit old) (is : IsPort old.image old.port seat) (early : old.place.turn ≤ until) where
+module _ (until : ℕ) (old new : PassView) (port_image : PortImage) (fit : IsFit old) (is : IsPort old.image old.port port_image) (early : old.place.turn ≤ until) where
   abbrev Next : PassView → Action → Type 0
-  Next pass a = IsNext seat pass.place pass.banks until (value_there pass) a
+  Next pass a = IsNext port_image pass.place pass.banks until (value_there pass) a
 
-  ask_keeps : (a : Action) → AskWaits seat old new → Next old a → Next new a
+  ask_keeps : (a : Action) → AskWaits port_image old new → Next old a → Next new a
   ask_keeps a waits next =
-      let same : action.Ask waits.reader ≡ a = one_next old.image fit.runs.image_fits old.port seat is old.place old.banks until (value_there old) (action.Ask waits.reader) a (early, waits.asks.next) next in
-      subst (Next new) same (subst (λ x. Next x (action.Ask waits.reader)) (sym waits.asks.is) (early, asked_again old fit seat is waits.reader new.last.number waits.asks.next waits.less))
+      let same : action.Ask waits.reader ≡ a = one_next old.image fit.runs.image_fits old.port port_image is old.place old.banks until (value_there old) (action.Ask waits.reader) a (early, waits.asks.next) next in
+      subst (Next new) same (subst (λ x. Next x (action.Ask waits.reader)) (sym waits.asks.is) (early, asked_again old fit port_image is waits.reader new.last.number waits.asks.next waits.less))
 
-  take_keeps : (a : Action) → TakeWaits seat old new → Next old a → Next new a
+  take_keeps : (a : Action) → TakeWaits port_image old new → Next old a → Next new a
   take_keeps a waits next =
-      let same : action.Take waits.slot ≡ a = one_next old.image fit.runs.image_fits old.port seat is old.place old.banks until (value_there old) (action.Take waits.slot) a (early, waits.looks.next) next in
+      let same : action.Take waits.slot ≡ a = one_next old.image fit.runs.image_fits old.port port_image is old.place old.banks until (value_there old) (action.Take waits.slot) a (early, waits.looks.next) next in
       subst (Next new) same (subst (λ x. Next x (action.Take waits.slot)) (sym waits.looks.is) (early, waits.looks.next))
 
-pub wait_keeps : (until : ℕ) (old new : PassView) (seat : PortImage) (a : Action) → IsFit old → IsWait until old new → IsPort old.image old.port seat → IsNext seat old.place old.banks until (value_there old) a
-    → IsNext seat new.place new.banks until (value_there new) a
-wait_keeps until old new seat a fit wait is next = elim wait.waits [
-  | inl ask ↦ ask_keeps until old new seat fit is wait.early a (subst (λ s. AskWaits s old new) (same_port old.image old.port wait.seat seat wait.is is) ask) next
-  | inr take ↦ take_keeps until old new seat fit is wait.early a (subst (λ s. TakeWaits s old new) (same_port old.image old.port wait.seat seat wait.is is) take) next
+pub wait_keeps : (until : ℕ) (old new : PassView) (port_image : PortImage) (a : Action) → IsFit old → IsWait until old new → IsPort old.image old.port port_image → IsNext port_image old.place old.banks until (value_there old) a
+    → IsNext port_image new.place new.banks until (value_there new) a
+wait_keeps until old new port_image a fit wait is next = elim wait.waits [
+  | inl ask ↦ ask_keeps until old new port_image fit is wait.early a (subst (λ s. AskWaits s old new) (same_port old.image old.port wait.port_image port_image wait.is is) ask) next
+  | inr take ↦ take_keeps until old new port_image fit is wait.early a (subst (λ s. TakeWaits s old new) (same_port old.image old.port wait.port_image port_image wait.is is) take) next
 ]

@@ -93,9 +93,9 @@ pub upcoming : (run : RunView) (port : PlacedPort) (known : List ℕ) (banks : �
     → known ≡ run.pass.place.known → banks ≡ run.pass.banks → IsFit run.pass → IsNextOf port known banks next → IsUpcoming run.until run.pass next
 upcoming run port known banks next port_is until known_is banks_are fit is =
     let pass : PassView = run.pass in
-    let seat = member_at pass.image.ports pass.port fit.inside in
+    let port_image = member_at pass.image.ports pass.port fit.inside in
     let here : IsNextOf (placed run) pass.place.known pass.banks next = subst (λ b. IsNextOf (placed run) pass.place.known b next) banks_are (subst (λ k. IsNextOf (placed run) k banks next) known_is (subst (λ p. IsNextOf p known banks next) port_is is)) in
-    record { fit = fit; few = few_turns run until; seat = seat.0; is = seat.1; next = here.each seat.0 seat.1 }
+    record { fit = fit; few = few_turns run until; port_image = port_image.0; is = port_image.1; next = here.each port_image.0 port_image.1 }
 
 -- the next event, from its fields and seen as a run
 module _ (a : Inside) (run : RunView) (same : view_of a ≡ run) where
@@ -109,7 +109,7 @@ module _ (a : Inside) (run : RunView) (same : view_of a ≡ run) where
 
 module _ (until : ℕ) (old : PassView) (reader : ℕ) (next : IsUpcoming until old (action.Ask reader)) where
   pub reader_there : reader < length old.image.ports
-  reader_there = asked_in old.image next.fit.runs.image_fits old.port next.seat next.is old.place old.banks reader next.next.1
+  reader_there = asked_in old.image next.fit.runs.image_fits old.port next.port_image next.is old.place old.banks reader next.next.1
 
   pub asked_step : (new : PassView) (finished turn banks : ℕ) → new ≡ one_step old (after_ask old.place reader finished) (progress_word reader) finished → turn ≡ new.place.turn → banks ≡ new.banks
       → (answer : Step) → IsAnswer finished turn banks answer → IsStepOf until old answer new
@@ -117,7 +117,7 @@ module _ (until : ℕ) (old : PassView) (reader : ℕ) (next : IsUpcoming until 
     last : new.last.number ≡ finished
     last = ap (λ (x : PassView). x.last.number) is
 
-    asks : Asks next.seat old new reader
+    asks : Asks next.port_image old new reader
     asks = record { next = next.next.1; is = subst (λ n. new ≡ one_step old (after_ask old.place reader n) (progress_word reader) n) (sym last) is }
 
     same_turn : turn ≡ old.place.turn
@@ -127,22 +127,22 @@ module _ (until : ℕ) (old : PassView) (reader : ℕ) (next : IsUpcoming until 
     same_banks = banks_are ∙ ap (λ (x : PassView). x.banks) is
 
     answered : (answer : Step) → IsAnswer finished turn banks answer → IsStepOf until old answer new
-    answered Moved enough = (event.Ask reader, record { seat = next.seat; is = next.is; early = next.next.0; makes = record { asks = asks; enough = let l = last in let t = same_turn in let b = same_banks in omega arith } })
-    answered NotYet less = record { seat = next.seat; is = next.is; early = next.next.0; waits = inl (record { reader = reader; asks = asks; less = let l = last in let t = same_turn in let b = same_banks in omega arith }) }
+    answered Moved enough = (event.Ask reader, record { port_image = next.port_image; is = next.is; early = next.next.0; makes = record { asks = asks; enough = let l = last in let t = same_turn in let b = same_banks in omega arith } })
+    answered NotYet less = record { port_image = next.port_image; is = next.is; early = next.next.0; waits = inl (record { reader = reader; asks = asks; less = let l = last in let t = same_turn in let b = same_banks in omega arith }) }
     answered Done none = absurd none
 
 -- ---- Put
 
 module _ (run : RunView) (slot : ℕ) (v : V4) (next : IsUpcoming run.until run.pass (action.Put slot v)) (new : PassView) (put : IsPut run.pass slot v new) where
   sending : IsSending (placed run) next.next.1.i next.next.1.link
-  sending = record { early = next.next.0; seat = next.seat; is = next.is; next = next.next.1.sends }
+  sending = record { early = next.next.0; port_image = next.port_image; is = next.is; next = next.next.1.sends }
 
   pub put_is : new ≡ one_step run.pass (after_put run.pass.place slot) (word_now run.pass run.pass.port next.next.1.i) (4 * run.pass.place.turn + code_of v)
-  put_is = put.each next.next.1.i next.next.1.link (record { port = next.seat; is = next.is; link_is = next.next.1.sends.is }) next.next.1.slot_is
+  put_is = put.each next.next.1.i next.next.1.link (record { port = next.port_image; is = next.is; link_is = next.next.1.sends.is }) next.next.1.slot_is
 
   pub put_event : IsEvent run.until run.pass (event.Put slot) new
   put_event = record {
-    seat = next.seat;
+    port_image = next.port_image;
     is = next.is;
     early = next.next.0;
     makes = record { next = next.next.1; is = put_is ∙ ap (λ x. one_step run.pass (after_put run.pass.place slot) (word_now run.pass run.pass.port next.next.1.i) (4 * run.pass.place.turn + code_of x)) next.next.2 };
@@ -157,12 +157,12 @@ module _ (run : RunView) (slot : ℕ) (v : V4) (next : IsUpcoming run.until run.
 
 module _ (run : RunView) (slot : ℕ) (next : IsUpcoming run.until run.pass (action.Take slot)) (new : PassView) where
   receiving : IsReceiving (placed run) next.next.1.j next.next.1.link
-  receiving = record { early = next.next.0; seat = next.seat; is = next.is; next = next.next.1.receives }
+  receiving = record { early = next.next.0; port_image = next.port_image; is = next.is; next = next.next.1.receives }
 
   looked : (t : Taken) → IsTake run.pass slot t new → HasLooked run.pass next.next.1.link t new
-  looked t took = took.each next.seat next.next.1.j next.next.1.link next.is next.next.1.receives.is next.next.1.slot_is
+  looked t took = took.each next.port_image next.next.1.j next.next.1.link next.is next.next.1.receives.is next.next.1.slot_is
 
-  looks : (t : Taken) (l : HasLooked run.pass next.next.1.link t new) (place : Place) → new ≡ one_step run.pass place (word_now run.pass next.next.1.link.sender l.i) new.last.number → Looks next.seat run.pass new slot place
+  looks : (t : Taken) (l : HasLooked run.pass next.next.1.link t new) (place : Place) → new ≡ one_step run.pass place (word_now run.pass next.next.1.link.sender l.i) new.last.number → Looks next.port_image run.pass new slot place
   looks t l place is = record { next = next.next.1; i = l.i; source = record { sent = l.sent; send = l.send; same_slot = l.same_slot }; is = is }
 
   module _ (t : Taken) (v : V4) (took : IsTake run.pass slot t new) (is : t ≡ taken.Value v) where
@@ -174,7 +174,7 @@ module _ (run : RunView) (slot : ℕ) (next : IsUpcoming run.until run.pass (act
 
     pub took_event : IsEvent run.until run.pass (event.Take slot) new
     took_event = record {
-      seat = next.seat;
+      port_image = next.port_image;
       is = next.is;
       early = next.next.0;
       makes = record {
@@ -197,7 +197,7 @@ module _ (run : RunView) (slot : ℕ) (next : IsUpcoming run.until run.pass (act
 
     pub missed_wait : IsWait run.until run.pass new
     missed_wait = record {
-      seat = next.seat;
+      port_image = next.port_image;
       is = next.is;
       early = next.next.0;
       waits = inr (record { slot = slot; looks = looks taken.NotYet missed run.pass.place missed.found.1; less = missed.found.0 });

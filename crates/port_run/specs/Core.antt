@@ -38,9 +38,9 @@ StandsIn pass state = state.place pass.port ≡ pass.place
 
 -- this is the core's step of the pass's port, in a run that has this last turn
 pub record IsCoreStep (turns : ℕ) (pass : PassView) (state : CoreState) (answer : CoreStep) (after : CoreState) : Type 0 where
-  pub seat : PortImage
-  pub is : IsPort pass.image pass.port seat
-  pub step : IsStep pass.image pass.feed pass.banks turns pass.port seat state answer after
+  pub port_image : PortImage
+  pub is : IsPort pass.image pass.port port_image
+  pub step : IsStep pass.image pass.feed pass.banks turns pass.port port_image state answer after
 
 -- the core makes the same event; its port stands afterwards where the pass does, and the word of the pass's last
 -- step, which the event read or wrote, has the number that it found or left there

@@ -37,27 +37,27 @@ pub record IsSource (image : Image) (link : LinkIn) (i : ℕ) : Type 0 where
 
 -- ---- one event
 
-module _ (seat : PortImage) (old new : PassView) where
+module _ (port_image : PortImage) (old new : PassView) where
   -- it looked how many turns a reader has finished, and knows it
   pub record Asks (reader : ℕ) : Type 0 where
-    pub next : AsksNext seat old.place old.banks reader
+    pub next : AsksNext port_image old.place old.banks reader
     pub is : new ≡ one_step old (after_ask old.place reader new.last.number) (progress_word reader) new.last.number
 
   -- it wrote the turn and the image's value
   pub record Puts (slot : ℕ) : Type 0 where
-    pub next : PutsNext seat old.place old.banks slot
+    pub next : PutsNext port_image old.place old.banks slot
     pub is : new ≡ one_step old (after_put old.place slot) (word_now old old.port next.i) (4 * old.place.turn + code_of (value_there old slot))
 
   -- it looked at this turn's word of what it receives, and stands there afterwards
   pub record Looks (slot : ℕ) (place : Place) : Type 0 where
-    pub next : TakesNext seat old.place slot
+    pub next : TakesNext port_image old.place slot
     pub i : ℕ
     pub source : IsSource old.image next.link i
     pub is : new ≡ one_step old place (word_now old next.link.sender i) new.last.number
 
   -- it wrote the turn that it has finished, and began the next one
   pub record Tells : Type 0 where
-    pub next : TellsNext seat old.place
+    pub next : TellsNext port_image old.place
     pub is : new ≡ one_step old (after_tell old.place) (progress_word old.port) old.place.turn
 
   -- the reader has finished enough turns
@@ -93,17 +93,17 @@ module _ (seat : PortImage) (old new : PassView) where
 
 -- one event leads from the first to the second, in a turn up to this last one
 pub record IsEvent (until : ℕ) (old : PassView) (event : Event) (new : PassView) : Type 0 where
-  pub seat : PortImage
-  pub is : IsPort old.image old.port seat
+  pub port_image : PortImage
+  pub is : IsPort old.image old.port port_image
   pub early : old.place.turn ≤ until
-  pub makes : Makes seat old new event
+  pub makes : Makes port_image old new event
 
 -- its next event is an Ask or a Take that has to wait, and one look was made, in a turn up to this last one
 pub record IsWait (until : ℕ) (old new : PassView) : Type 0 where
-  pub seat : PortImage
-  pub is : IsPort old.image old.port seat
+  pub port_image : PortImage
+  pub is : IsPort old.image old.port port_image
   pub early : old.place.turn ≤ until
-  pub waits : AskWaits seat old new ⊎ TakeWaits seat old new
+  pub waits : AskWaits port_image old new ⊎ TakeWaits port_image old new
 
 -- what comes of a step in a block that has this last turn
 abbrev pub IsStepOf : ℕ → PassView → Step → PassView → Type 0
@@ -120,18 +120,18 @@ ends_turn Tell = true
 
 -- ---- what has to wait
 
-module _ (seat : PortImage) (pass : PassView) where
+module _ (port_image : PortImage) (pass : PassView) where
   -- its next event is an Ask, and the reader's progress word, which was looked at last, told too few turns
   pub record AskIsShort : Type 0 where
     pub reader : ℕ
-    pub next : AsksNext seat pass.place pass.banks reader
+    pub next : AsksNext port_image pass.place pass.banks reader
     pub word : pass.last.word ≡ progress_word reader
     pub less : pass.last.number + pass.banks < pass.place.turn
 
   -- its next event is a Take, and its word, which was looked at last, was of a turn before
   pub record TakeIsShort : Type 0 where
     pub slot : ℕ
-    pub next : TakesNext seat pass.place slot
+    pub next : TakesNext port_image pass.place slot
     pub i : ℕ
     pub source : IsSource pass.image next.link i
     pub word : pass.last.word ≡ word_now pass next.link.sender i
@@ -139,7 +139,7 @@ module _ (seat : PortImage) (pass : PassView) where
 
 -- the last look was that of its next event, which has to wait by what it found, in a turn up to this last one
 pub record IsShort (until : ℕ) (pass : PassView) : Type 0 where
-  pub seat : PortImage
-  pub is : IsPort pass.image pass.port seat
+  pub port_image : PortImage
+  pub is : IsPort pass.image pass.port port_image
   pub early : pass.place.turn ≤ until
-  pub short : AskIsShort seat pass ⊎ TakeIsShort seat pass
+  pub short : AskIsShort port_image pass ⊎ TakeIsShort port_image pass

@@ -68,7 +68,7 @@ pub fn steps_are_events_of_sound_states()
 /// A law: a step that has to wait leaves the next event, though an Ask may have learnt a greater number of
 /// turns.
 pub fn waits_keep_the_next_event()
-    ensures { (until : ℕ) (old new : PassView) (seat : PortImage) (action : Action) → IsFit old → IsWait until old new
-        → IsPort old.image old.port seat → IsNext seat old.place old.banks until (value_there old) action
-        → IsNext seat new.place new.banks until (value_there new) action }
+    ensures { (until : ℕ) (old new : PassView) (port_image : PortImage) (action : Action) → IsFit old → IsWait until old new
+        → IsPort old.image old.port port_image → IsNext port_image old.place old.banks until (value_there old) action
+        → IsNext port_image new.place new.banks until (value_there new) action }
 {}

@@ -57,12 +57,12 @@ from_next xs n bound up next i s at high = elim (last_or n i (omega arith)) [
 
 -- ---- the next event
 
-module _ (seat : PortImage) (slots sent took : ℕ) (out_up : Rises (out_slots seat.outs)) (in_up : Rises (in_slots seat.ins)) where
+module _ (port_image : PortImage) (slots sent took : ℕ) (out_up : Rises (out_slots port_image.outs)) (in_up : Rises (in_slots port_image.ins)) where
   abbrev outs : List ℕ
-  outs = out_slots seat.outs
+  outs = out_slots port_image.outs
 
   abbrev ins : List ℕ
-  ins = in_slots seat.ins
+  ins = in_slots port_image.ins
 
   abbrev puts : List ℕ
   puts = take sent outs
@@ -70,28 +70,28 @@ module _ (seat : PortImage) (slots sent took : ℕ) (out_up : Rises (out_slots s
   abbrev takes : List ℕ
   takes = take took ins
 
-  sent_below : (bound i : ℕ) (link : LinkOut) → ((s : ℕ) → slice_get outs sent ≡ Some s → bound ≤ s) → slice_get seat.outs i ≡ Some link → link.slot < bound → is_in link.slot puts ≡ true
+  sent_below : (bound i : ℕ) (link : LinkOut) → ((s : ℕ) → slice_get outs sent ≡ Some s → bound ≤ s) → slice_get port_image.outs i ≡ Some link → link.slot < bound → is_in link.slot puts ≡ true
   sent_below bound i link next at low = elim (cases_lt i sent) [
-    | inl less ↦ in_taken outs sent i link.slot less (to_map (λ (l : LinkOut). l.slot) seat.outs i link at)
-    | inr more ↦ let high = from_next outs sent bound out_up next i link.slot (to_map (λ (l : LinkOut). l.slot) seat.outs i link at) more in absurd (omega arith)
+    | inl less ↦ in_taken outs sent i link.slot less (to_map (λ (l : LinkOut). l.slot) port_image.outs i link at)
+    | inr more ↦ let high = from_next outs sent bound out_up next i link.slot (to_map (λ (l : LinkOut). l.slot) port_image.outs i link at) more in absurd (omega arith)
   ]
 
-  took_below : (bound j : ℕ) (link : LinkIn) → ((t : ℕ) → slice_get ins took ≡ Some t → bound ≤ t) → slice_get seat.ins j ≡ Some link → link.slot < bound → is_in link.slot takes ≡ true
+  took_below : (bound j : ℕ) (link : LinkIn) → ((t : ℕ) → slice_get ins took ≡ Some t → bound ≤ t) → slice_get port_image.ins j ≡ Some link → link.slot < bound → is_in link.slot takes ≡ true
   took_below bound j link next at low = elim (cases_lt j took) [
-    | inl less ↦ in_taken ins took j link.slot less (to_map (λ (l : LinkIn). l.slot) seat.ins j link at)
-    | inr more ↦ let high = from_next ins took bound in_up next j link.slot (to_map (λ (l : LinkIn). l.slot) seat.ins j link at) more in absurd (omega arith)
+    | inl less ↦ in_taken ins took j link.slot less (to_map (λ (l : LinkIn). l.slot) port_image.ins j link at)
+    | inr more ↦ let high = from_next ins took bound in_up next j link.slot (to_map (λ (l : LinkIn). l.slot) port_image.ins j link at) more in absurd (omega arith)
   ]
 
-  done_below : (bound : ℕ) → ((s : ℕ) → slice_get outs sent ≡ Some s → bound ≤ s) → ((t : ℕ) → slice_get ins took ≡ Some t → bound ≤ t) → IsDoneBelow seat puts takes bound
+  done_below : (bound : ℕ) → ((s : ℕ) → slice_get outs sent ≡ Some s → bound ≤ s) → ((t : ℕ) → slice_get ins took ≡ Some t → bound ≤ t) → IsDoneBelow port_image puts takes bound
   done_below bound next_out next_in = record {
     all_put = λ i link at low. sent_below bound i link next_out at low;
     all_taken = λ j link at low. took_below bound j link next_in at low;
   }
 
-  pub next_send : kind_at outs ins sent took ≡ Send → (link : LinkOut) × SendsNext seat puts takes sent link × (link.slot ≡ slot_at outs ins slots sent took)
+  pub next_send : kind_at outs ins sent took ≡ Send → (link : LinkOut) × SendsNext port_image puts takes sent link × (link.slot ≡ slot_at outs ins slots sent took)
   next_send is =
       let next = (tells outs ins slots sent took).send is in
-      let found = at_map (λ (l : LinkOut). l.slot) seat.outs sent next.0 next.1.here in
+      let found = at_map (λ (l : LinkOut). l.slot) port_image.outs sent next.0 next.1.here in
       let slot : found.0.slot ≡ next.0 = found.2 in (
         found.0,
         record {
@@ -104,10 +104,10 @@ module _ (seat : PortImage) (slots sent took : ℕ) (out_up : Rises (out_slots s
         slot ∙ sym next.1.slot,
       )
 
-  pub next_receipt : kind_at outs ins sent took ≡ Receive → (link : LinkIn) × ReceivesNext seat puts takes took link × (link.slot ≡ slot_at outs ins slots sent took)
+  pub next_receipt : kind_at outs ins sent took ≡ Receive → (link : LinkIn) × ReceivesNext port_image puts takes took link × (link.slot ≡ slot_at outs ins slots sent took)
   next_receipt is =
       let next = (tells outs ins slots sent took).receipt is in
-      let found = at_map (λ (l : LinkIn). l.slot) seat.ins took next.0 next.1.here in
+      let found = at_map (λ (l : LinkIn). l.slot) port_image.ins took next.0 next.1.here in
       let slot : found.0.slot ≡ next.0 = found.2 in (
         found.0,
         record {
@@ -121,7 +121,7 @@ module _ (seat : PortImage) (slots sent took : ℕ) (out_up : Rises (out_slots s
         slot ∙ sym next.1.slot,
       )
 
-  pub next_end : kind_at outs ins sent took ≡ End → EndsNext seat puts takes
+  pub next_end : kind_at outs ins sent took ≡ End → EndsNext port_image puts takes
   next_end is =
       let next = (tells outs ins slots sent took).end is in
       record {
@@ -130,10 +130,10 @@ module _ (seat : PortImage) (slots sent took : ℕ) (out_up : Rises (out_slots s
       }
 
   -- what the port receives before the stop's slot it has received
-  pub received_before : (i : ℕ) (link : LinkIn) → slice_get seat.ins i ≡ Some link → link.slot < slot_at outs ins slots sent took → i < took
+  pub received_before : (i : ℕ) (link : LinkIn) → slice_get port_image.ins i ≡ Some link → link.slot < slot_at outs ins slots sent took → i < took
   received_before i link at low = elim (cases_lt i took) [
     | inl less ↦ less
-    | inr more ↦ let high = from_next ins took (slot_at outs ins slots sent took) in_up up_to i link.slot (to_map (λ (l : LinkIn). l.slot) seat.ins i link at) more in absurd (omega arith)
+    | inr more ↦ let high = from_next ins took (slot_at outs ins slots sent took) in_up up_to i link.slot (to_map (λ (l : LinkIn). l.slot) port_image.ins i link at) more in absurd (omega arith)
   ] where
     up_to : (t : ℕ) → slice_get ins took ≡ Some t → slot_at outs ins slots sent took ≤ t
     up_to t there = of_kind (kind_at outs ins sent took) refl where

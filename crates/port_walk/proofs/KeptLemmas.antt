@@ -18,7 +18,7 @@ use Rattle.port_walk.specs.declared.upcoming.Upcoming.TheVariants.{Take, Tell}
 use Rattle.port_walk.specs.Kept.{Parts, view_of, IsKept}
 use Rattle.port_walk.specs.code.Readers.{IsNextOfSend}
 use Rattle.port_walk.specs.Stands.{place_of, action_of, IsNextOf}
-use Rattle.port_walk.proofs.WalkLemmas.{end_here, last_here, next_sent, receipt_here, same_seat}
+use Rattle.port_walk.proofs.WalkLemmas.{end_here, last_here, next_sent, receipt_here, same_port_image}
 
 module _ {W P F S : Type 0} (m : word.Ghosts W P F S) where
   -- its turns can be counted
@@ -33,9 +33,9 @@ module _ {W P F S : Type 0} (m : word.Ghosts W P F S) where
     -- ---- the next event
 
     module _ (known : List ℕ) (banks : ℕ) (early : a.turn ≤ a.until) where
-      next_of : (next : Upcoming) → ((value : ℕ → V4) → IsNext a.seat (place_of (view_of a).stand known) banks a.until value (action_of value next)) → IsNextOf (view_of a).stand known banks next
+      next_of : (next : Upcoming) → ((value : ℕ → V4) → IsNext a.port_image (place_of (view_of a).stand known) banks a.until value (action_of value next)) → IsNextOf (view_of a).stand known banks next
       next_of next is_next = record {
-        each = λ value seat is. subst (λ s. IsNext s (place_of (view_of a).stand known) banks a.until value (action_of value next)) (same_seat m kept seat is) (is_next value);
+        each = λ value port_image is. subst (λ s. IsNext s (place_of (view_of a).stand known) banks a.until value (action_of value next)) (same_port_image m kept port_image is) (is_next value);
       }
 
       pub next_take : stop.kind ≡ Receive → IsNextOf (view_of a).stand known banks (Take stop.slot)
@@ -44,16 +44,16 @@ module _ {W P F S : Type 0} (m : word.Ghosts W P F S) where
       pub next_tell : stop.kind ≡ End → IsNextOf (view_of a).stand known banks Tell
       next_tell kind = next_of Tell (λ value. (early, end_here m kept stop at kind))
 
-      pub next_put : (readers : List ℕ) (turns : ℕ) (link : LinkOut) (next : Upcoming) → stop.kind ≡ Send → turns ≡ a.turn - banks → slice_get a.seat.outs a.sent ≡ Some link → readers ≡ link.readers
+      pub next_put : (readers : List ℕ) (turns : ℕ) (link : LinkOut) (next : Upcoming) → stop.kind ≡ Send → turns ≡ a.turn - banks → slice_get a.port_image.outs a.sent ≡ Some link → readers ≡ link.readers
           → IsNextOfSend readers known turns stop.slot next → IsNextOf (view_of a).stand known banks next
       next_put readers turns link next kind bar is same sends = next_of next (λ value.
           next_sent m kept stop at known a.turn banks a.until value early readers turns link next kind bar is same sends)
 
     -- the value of the last item is that of the item in the stop's slot
-    pub holds_value : (early : a.turn ≤ a.until) (link : LinkOut) → slice_get a.seat.outs a.sent ≡ Some link → link.slot ≡ stop.slot → (l : ℕ) → l < m.lanes
+    pub holds_value : (early : a.turn ≤ a.until) (link : LinkOut) → slice_get a.port_image.outs a.sent ≡ Some link → link.slot ≡ stop.slot → (l : ℕ) → l < m.lanes
         → m.lane a.value l ≡ image_value a.view.image (m.stimulus a.view.image.columns a.view.stimulus l) a.turn a.view.port stop.slot
     holds_value early link is slot l low =
         let last = last_here m kept stop at link is slot in
         let one : IsLastValue (lane_port m.stimulus l a.view) (m.lane a.value l) = in_lane m.lanes (λ k. IsLastValue (lane_port m.stimulus k a.view) (m.lane a.value k)) kept.value l low in
-        one.each a.seat last.0 stop.slot kept.seat (last.1 ∙ sym (kept.executed early stop at)) last.2
+        one.each a.port_image last.0 stop.slot kept.port_image (last.1 ∙ sym (kept.executed early stop at)) last.2
         ∙ ap (λ (v : View S). value_in (record (lane_port m.stimulus l a.view) { turn = v.turn }) stop.slot) kept.inner

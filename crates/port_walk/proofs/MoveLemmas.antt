@@ -57,7 +57,7 @@ module _ {W P F S : Type 0} (m : word.Ghosts W P F S) (a : Parts W S) (kept : Is
       subst (λ v. IsKept m (record a { view = v; rows = rows; at = a.at + 1; sent = sent; took = took; value = value })) (sym inside) (record {
         image = kept.image;
         valid = kept.valid;
-        seat = kept.seat;
+        port_image = kept.port_image;
         few = kept.few;
         first = kept.first;
         last = kept.last;
@@ -83,8 +83,8 @@ module _ {W P F S : Type 0} (m : word.Ghosts W P F S) (a : Parts W S) (kept : Is
       let given = in_lane m.lanes (λ k. m.lane value k ≡ image_value a.view.image (m.stimulus a.view.image.columns a.view.stimulus k) a.turn can.link.sender can.link.slot) can.value l low in
       subst (λ (v : View S). CanReceive (lane_port m.stimulus l v) stop.slot (m.lane value l)) (sym (inner_here early)) (record {
         begun = le-leb a.turn a.until early;
-        port = a.seat;
-        is = kept.seat;
+        port = a.port_image;
+        is = kept.port_image;
         link = can.link;
         next = here.is;
         slot_is = here.slot;
@@ -96,7 +96,7 @@ module _ {W P F S : Type 0} (m : word.Ghosts W P F S) (a : Parts W S) (kept : Is
   can_end ending = in_each m.lanes (λ l. CanEnd (lane_port m.stimulus l a.view)) (λ l low.
       let early = ending.early in
       let done = all_done m kept stop at (ending_here m kept stop at ending) in
-      subst (λ (v : View S). CanEnd (lane_port m.stimulus l v)) (sym (inner_here early)) (record { begun = le-leb a.turn a.until early; port = a.seat; is = kept.seat; executed_all = done.0; received_all = done.1 }))
+      subst (λ (v : View S). CanEnd (lane_port m.stimulus l v)) (sym (inner_here early)) (record { begun = le-leb a.turn a.until early; port = a.port_image; is = kept.port_image; executed_all = done.0; received_all = done.1 }))
 
 -- ---- a Put or a Take, by the stops that were read
 
@@ -151,7 +151,7 @@ module _ {W P F S : Type 0} (m : word.Ghosts W P F S) {a : Parts W S} (kept : Is
         subst (λ o. HasPut o (view_of (record a { view = view; rows = rows; at = a.at + 1; sent = a.sent + 1; value = value }))) seen (record {
           each = λ i link sending.
               ap (λ v. view_of (record a { view = v; rows = rows; at = a.at + 1; sent = a.sent + 1; value = value })) (put_inside view run)
-              ∙ ap (λ r. record (view_of a) { rows = r; stand = record (view_of a).stand { puts = take (a.sent + 1) (out_slots a.seat.outs) } }) is
+              ∙ ap (λ r. record (view_of a) { rows = r; stand = record (view_of a).stand { puts = take (a.sent + 1) (out_slots a.port_image.outs) } }) is
               ∙ ap (λ ps. record (view_of a) { stand = record (view_of a).stand { puts = ps } }) (puts_more m kept link (sending_here m kept here at_here i link sending).is);
         })
 
@@ -191,26 +191,26 @@ module _ {W P F S : Type 0} (m : word.Ghosts W P F S) {a : Parts W S} (kept : Is
           subst (λ o. HasTaken o (view_of (record a { view = view; rows = rows; at = a.at + 1; took = a.took + 1; value = value }))) seen (record {
             each = λ j link receiving.
                 ap (λ v. view_of (record a { view = v; rows = rows; at = a.at + 1; took = a.took + 1; value = value })) (take_inside view run)
-                ∙ ap (λ r. record (view_of a) { rows = r; stand = record (view_of a).stand { takes = take (a.took + 1) (in_slots a.seat.ins) } }) is
+                ∙ ap (λ r. record (view_of a) { rows = r; stand = record (view_of a).stand { takes = take (a.took + 1) (in_slots a.port_image.ins) } }) is
                 ∙ ap (λ ts. record (view_of a) { stand = record (view_of a).stand { takes = ts } }) (takes_more m kept link (receiving_here m kept here at_here j link receiving).is);
           })
 
 -- ---- a turn that begins
 
 module _ {W P F S : Type 0} (m : word.Ghosts W P F S) where
-  module _ (before : View S) (good : IsWellFormed before.image) (seat : PortImage) (is : IsPort before.image before.port seat) (slots : List ℕ) (stops : List Stop) (slots_are : slots ≡ item_slots seat.work)
-      (stops_are : AreStops (out_slots seat.outs) (in_slots seat.ins) before.image.slots slots stops) (read : List Stop) (same : read ≡ stops) (until : ℕ) (few : InEachLane m (λ v. until ≤ last_turn v) before) where
+  module _ (before : View S) (good : IsWellFormed before.image) (port_image : PortImage) (is : IsPort before.image before.port port_image) (slots : List ℕ) (stops : List Stop) (slots_are : slots ≡ item_slots port_image.work)
+      (stops_are : AreStops (out_slots port_image.outs) (in_slots port_image.ins) before.image.slots slots stops) (read : List Stop) (same : read ≡ stops) (until : ℕ) (few : InEachLane m (λ v. until ≤ last_turn v) before) where
     abbrev entry : Stop
     entry = get_or read 0 no_stop
 
-    right : IsPortImage before.image before.port seat
-    right = good.ports before.port seat is
+    right : IsPortImage before.image before.port port_image
+    right = good.ports before.port port_image is
 
     -- the first stop is what was read
     there : slice_get stops 0 ≡ Some entry
     there = let count = stops_are.count in slice_get-get_or stops 0 no_stop (omega arith) ∙ ap (λ xs. Some (get_or xs 0 no_stop)) (sym same)
 
-    first_stop : IsStop (out_slots seat.outs) (in_slots seat.ins) before.image.slots slots 0 0 entry
+    first_stop : IsStop (out_slots port_image.outs) (in_slots port_image.ins) before.image.slots slots 0 0 entry
     unfolding counts
     first_stop = stops_are.each 0 entry there
 
@@ -219,27 +219,27 @@ module _ {W P F S : Type 0} (m : word.Ghosts W P F S) where
       fresh = fresh;
       none = none;
       more = λ yes. let most = in_lane m.lanes (λ k. until ≤ last_turn (lane_port m.stimulus k before)) few l low_lane in omega (arith, most, low yes);
-      seat = seat;
+      port_image = port_image;
       is = is;
       slots_are = items_are ∙ slots_are;
       within = let within = first_stop.front.within in subst (λ xs. entry.items ≤ length xs) (sym items_are) within;
       received_before = λ k slot i link low_k at_k at_i less.
           let below = first_stop.front.before k slot (ap (λ xs. slice_get xs k) (sym items_are) ∙ at_k) low_k in
           let place = first_stop.slot in
-          let none_before : i < 0 = received_before seat before.image.slots 0 0 (rises (out_slots seat.outs) right.outs) (rises (in_slots seat.ins) right.ins) i link at_i (omega arith) in
+          let none_before : i < 0 = received_before port_image before.image.slots 0 0 (rises (out_slots port_image.outs) right.outs) (rises (in_slots port_image.ins) right.ins) i link at_i (omega arith) in
           absurd (omega arith);
     })
 
     -- what the walk keeps where its port has entered the turn
-    pub entered_kept : (view : View S) (rows : Option (ℕ × ℕ)) (readers : Readers) (at sent took : ℕ) (value : W) (turn : ℕ) → InEachLane m (λ v. IsValidStimulus v.stimulus) before → AreReaders (length seat.outs) seat.outs readers
+    pub entered_kept : (view : View S) (rows : Option (ℕ × ℕ)) (readers : Readers) (at sent took : ℕ) (value : W) (turn : ℕ) → InEachLane m (λ v. IsValidStimulus v.stimulus) before → AreReaders (length port_image.outs) port_image.outs readers
         → at ≡ 0 → sent ≡ 0 → took ≡ 0 → before.turn ≡ turn → before.received ≡ 0 → 1 ≤ turn → turn ≤ until + 1 → HasEntered before view entry.items (nat_le turn until) → InEachLaneOf m value (λ v x. IsLastValue v x) view
-        → IsKept m (record { view = view; rows = rows; seat = seat; slots = slots; readers = readers; stops = stops; at = at; sent = sent; took = took; value = value; turn = turn; until = until })
+        → IsKept m (record { view = view; rows = rows; port_image = port_image; slots = slots; readers = readers; stops = stops; at = at; sent = sent; took = took; value = value; turn = turn; until = until })
     unfolding counts
     entered_kept view rows readers at sent took value turn valid readers_are at_is sent_is took_is turn_is received first last entered value_is =
-        subst (λ v. IsKept m (record { view = v; rows = rows; seat = seat; slots = slots; readers = readers; stops = stops; at = at; sent = sent; took = took; value = value; turn = turn; until = until })) (sym entered) (record {
+        subst (λ v. IsKept m (record { view = v; rows = rows; port_image = port_image; slots = slots; readers = readers; stops = stops; at = at; sent = sent; took = took; value = value; turn = turn; until = until })) (sym entered) (record {
           image = good;
           valid = valid;
-          seat = is;
+          port_image = is;
           few = few;
           first = first;
           last = last;
@@ -266,13 +266,13 @@ module _ {W P F S : Type 0} (m : word.Ghosts W P F S) {a : Parts W S} (kept : Is
   pub told_enters : (items : List ℕ) → items ≡ a.slots → InEachLane m (λ v. CanEnter v items (get_or stops 0 no_stop).items (nat_le (a.turn + 1) a.until)) ended
   told_enters items items_are =
       subst (InEachLane m (λ v. CanEnter v items (get_or stops 0 no_stop).items (nat_le (a.turn + 1) a.until))) (sym is)
-      (may_enter m (after_end a.view) kept.image a.seat kept.seat a.slots a.stops kept.slots kept.stops stops same a.until kept.few items (nat_le (a.turn + 1) a.until) items_are refl refl
+      (may_enter m (after_end a.view) kept.image a.port_image kept.port_image a.slots a.stops kept.slots kept.stops stops same a.until kept.few items (nat_le (a.turn + 1) a.until) items_are refl refl
       (λ runs. let low = leb-true (a.turn + 1) a.until runs in let turn = ap (λ (v : View S). v.turn) kept.inner in omega (arith, low, turn)))
 
   pub told_kept : (view : View S) (rows : Option (ℕ × ℕ)) (value : W) → a.turn ≤ a.until → HasEntered ended view (get_or stops 0 no_stop).items (nat_le (a.turn + 1) a.until) → InEachLaneOf m value (λ v x. IsLastValue v x) view
       → IsKept m (record a { view = view; rows = rows; at = 0; sent = 0; took = 0; value = value; turn = a.turn + 1 })
   told_kept view rows value early entered last =
-      entered_kept m (after_end a.view) kept.image a.seat kept.seat a.slots a.stops kept.slots kept.stops stops same a.until kept.few view rows a.readers 0 0 0 value (a.turn + 1) kept.valid kept.readers refl refl refl
+      entered_kept m (after_end a.view) kept.image a.port_image kept.port_image a.slots a.stops kept.slots kept.stops stops same a.until kept.few view rows a.readers 0 0 0 value (a.turn + 1) kept.valid kept.readers refl refl refl
       (ap (λ (v : View S). v.turn + 1) kept.inner) refl (omega arith) (omega (arith, early))
       (entered ∙ ap (λ (v : View S). record v { begun = nat_le (a.turn + 1) a.until; executed = if nat_le (a.turn + 1) a.until then (get_or stops 0 no_stop).items else 0 }) is) last
 
@@ -285,14 +285,14 @@ module _ {W P F S : Type 0} (m : word.Ghosts W P F S) {a : Parts W S} (kept : Is
   pub gone_enters : (items : List ℕ) → items ≡ a.slots → InEachLane m (λ v. CanEnter v items (get_or stops 0 no_stop).items true) before
   gone_enters items items_are =
       subst (InEachLane m (λ v. CanEnter v items (get_or stops 0 no_stop).items true)) (sym is)
-      (may_enter m a.view kept.image a.seat kept.seat a.slots a.stops kept.slots kept.stops stops same until few items true items_are
+      (may_enter m a.view kept.image a.port_image kept.port_image a.slots a.stops kept.slots kept.stops stops same until few items true items_are
       (ap (λ (v : View S). v.begun) kept.inner ∙ le_late a.turn a.until late) (kept.rests late)
       (λ runs. let turn = ap (λ (v : View S). v.turn) kept.inner in omega (arith, more, turn)))
 
   pub gone_kept : (view : View S) (rows : Option (ℕ × ℕ)) (value : W) → HasEntered before view (get_or stops 0 no_stop).items true → InEachLaneOf m value (λ v x. IsLastValue v x) view
       → IsKept m (record a { view = view; rows = rows; value = value; until = until })
   gone_kept view rows value entered last =
-      entered_kept m a.view kept.image a.seat kept.seat a.slots a.stops kept.slots kept.stops stops same until few view rows a.readers a.at a.sent a.took value a.turn kept.valid kept.readers
+      entered_kept m a.view kept.image a.port_image kept.port_image a.slots a.stops kept.slots kept.stops stops same until few view rows a.readers a.at a.sent a.took value a.turn kept.valid kept.readers
       (kept.unmoved late) (omega (arith, kept.unmoved late, kept.at)) (omega (arith, kept.unmoved late, kept.at))
       (ap (λ (v : View S). v.turn) kept.inner) (ap (λ (v : View S). v.received) kept.inner ∙ omega (arith, kept.unmoved late, kept.at)) kept.first (omega (arith, more))
       (entered ∙ (ap (λ (v : View S). record v { begun = true; executed = (get_or stops 0 no_stop).items }) is

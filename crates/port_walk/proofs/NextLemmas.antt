@@ -22,7 +22,7 @@ module _ (a : Inside) (view : PlacedPort) (seen : view_of a ≡ view) (known : L
 
   pub next_put : (slot : ℕ) (v : V4) → result ≡ Put slot → ((i : ℕ) (link : LinkOut) → IsSending a.walk.stand i link → v ≡ values link.slot) → IsNextOf view known banks (action.Put slot v)
   next_put slot v same value = subst (λ p. IsNextOf p known banks (action.Put slot v)) seen (record {
-    each = λ seat at.
-        let put = (subst (stands.IsNextOf a.walk.stand known banks) same next).each values seat at in
-        (put.0, put.1, value put.1.i put.1.link (record { early = put.0; seat = seat; is = at; next = put.1.sends }) ∙ ap values put.1.slot_is);
+    each = λ port_image at.
+        let put = (subst (stands.IsNextOf a.walk.stand known banks) same next).each values port_image at in
+        (put.0, put.1, value put.1.i put.1.link (record { early = put.0; port_image = port_image; is = at; next = put.1.sends }) ∙ ap values put.1.slot_is);
   })

@@ -19,7 +19,7 @@ use Rattle.port_walk.specs.Walks.{Walked}
 pub record Parts (W S : Type 0) : Type 0 where
   pub view : View S
   pub rows : Option (ℕ × ℕ)
-  pub seat : PortImage
+  pub port_image : PortImage
   pub slots : List ℕ
   pub readers : Readers
   pub stops : List Stop
@@ -39,8 +39,8 @@ view_of a = record {
     port = a.view.port;
     until = a.until;
     turn = a.turn;
-    puts = take a.sent (out_slots a.seat.outs);
-    takes = take a.took (in_slots a.seat.ins);
+    puts = take a.sent (out_slots a.port_image.outs);
+    takes = take a.took (in_slots a.port_image.ins);
   };
 }
 
@@ -53,17 +53,17 @@ module _ {W P F S : Type 0} (m : word.Ghosts W P F S) where
   pub record IsKept (a : Parts W S) : Type 0 where
     pub image : IsWellFormed a.view.image
     pub valid : InEachLane m (λ view. IsValidStimulus view.stimulus) a.view
-    pub seat : IsPort a.view.image a.view.port a.seat
+    pub port_image : IsPort a.view.image a.view.port a.port_image
     pub few : InEachLane m (λ view. a.until ≤ last_turn view) a.view
     pub first : 1 ≤ a.turn
     pub last : a.turn ≤ a.until + 1
-    pub slots : a.slots ≡ item_slots a.seat.work
-    pub stops : AreStops (out_slots a.seat.outs) (in_slots a.seat.ins) a.view.image.slots a.slots a.stops
-    pub readers : AreReaders (length a.seat.outs) a.seat.outs a.readers
-    pub come : counts (out_slots a.seat.outs) (in_slots a.seat.ins) a.at ≡ (a.sent, a.took)
+    pub slots : a.slots ≡ item_slots a.port_image.work
+    pub stops : AreStops (out_slots a.port_image.outs) (in_slots a.port_image.ins) a.view.image.slots a.slots a.stops
+    pub readers : AreReaders (length a.port_image.outs) a.port_image.outs a.readers
+    pub come : counts (out_slots a.port_image.outs) (in_slots a.port_image.ins) a.at ≡ (a.sent, a.took)
     pub at : a.at ≡ a.sent + a.took
-    pub sent : a.sent ≤ length a.seat.outs
-    pub took : a.took ≤ length a.seat.ins
+    pub sent : a.sent ≤ length a.port_image.outs
+    pub took : a.took ≤ length a.port_image.ins
     pub inner : a.view ≡ inner a a.view.executed
     pub executed : a.turn ≤ a.until → (stop : Stop) → slice_get a.stops a.at ≡ Some stop → a.view.executed ≡ stop.items
     pub rests : a.until < a.turn → a.view.executed ≡ 0

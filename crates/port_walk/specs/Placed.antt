@@ -73,8 +73,8 @@ IsEnding view = stands.IsEnding (stand_of view)
 
 -- this is its next event, by what it knows and with so many banks; a Put has the image's value
 pub record IsNextOf (view : PlacedPort) (known : List ℕ) (banks : ℕ) (action : Action) : Type 0 where
-  pub each : (seat : PortImage) → IsPort view.image view.port seat
-      → IsNext seat (place_of view known) banks view.until (image_value view.image view.stimulus view.turn view.port) action
+  pub each : (port_image : PortImage) → IsPort view.image view.port port_image
+      → IsNext port_image (place_of view known) banks view.until (image_value view.image view.stimulus view.turn view.port) action
 
 -- ---- what a call may do
 

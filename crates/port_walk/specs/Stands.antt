@@ -31,23 +31,23 @@ place_of stand known = record { turn = stand.turn; puts = stand.puts; takes = st
 -- the next thing that is missing is the Put of this link, number i of what the port sends
 pub record IsSending (stand : Stand) (i : ℕ) (link : LinkOut) : Type 0 where
   pub early : stand.turn ≤ stand.until
-  pub seat : PortImage
-  pub is : IsPort stand.image stand.port seat
-  pub next : SendsNext seat stand.puts stand.takes i link
+  pub port_image : PortImage
+  pub is : IsPort stand.image stand.port port_image
+  pub next : SendsNext port_image stand.puts stand.takes i link
 
 -- it is the Take of this link, number j of what the port receives
 pub record IsReceiving (stand : Stand) (j : ℕ) (link : LinkIn) : Type 0 where
   pub early : stand.turn ≤ stand.until
-  pub seat : PortImage
-  pub is : IsPort stand.image stand.port seat
-  pub next : ReceivesNext seat stand.puts stand.takes j link
+  pub port_image : PortImage
+  pub is : IsPort stand.image stand.port port_image
+  pub next : ReceivesNext port_image stand.puts stand.takes j link
 
 -- nothing is missing in the turn
 pub record IsEnding (stand : Stand) : Type 0 where
   pub early : stand.turn ≤ stand.until
-  pub seat : PortImage
-  pub is : IsPort stand.image stand.port seat
-  pub next : EndsNext seat stand.puts stand.takes
+  pub port_image : PortImage
+  pub is : IsPort stand.image stand.port port_image
+  pub next : EndsNext port_image stand.puts stand.takes
 
 pub record CanPut (stand : Stand) : Type 0 where
   pub i : ℕ
@@ -77,5 +77,5 @@ action_of value upcoming.Done = Done
 
 -- this is its next event, by what it knows and with so many banks, whatever values it has
 pub record IsNextOf (stand : Stand) (known : List ℕ) (banks : ℕ) (next : Upcoming) : Type 0 where
-  pub each : (value : ℕ → V4) (seat : PortImage) → IsPort stand.image stand.port seat
-      → IsNext seat (place_of stand known) banks stand.until value (action_of value next)
+  pub each : (value : ℕ → V4) (port_image : PortImage) → IsPort stand.image stand.port port_image
+      → IsNext port_image (place_of stand known) banks stand.until value (action_of value next)

@@ -71,13 +71,13 @@ impl<'a> AnyPort<'a> {
         requires some { 1 ≤ window }
         ensures { IfOk result (λ made. made ≡ at_start image.now stim.now port window) }
     {
-        let seat = &image.ports.as_slice()[port as usize];
-        let (slots, stops, readers) = lists_of(alloc, image, seat)?;
+        let port_image = &image.ports.as_slice()[port as usize];
+        let (slots, stops, readers) = lists_of(alloc, image, port_image)?;
         let kind = first_kind(alloc, image, stim, port, window)?;
         let cycles = stim.cycles();
         let until = last_turn(image.units, cycles, 0, window);
         Ok(AnyPort {
-            walk: Walk::new(kind, seat, slots, stops, readers, until),
+            walk: Walk::new(kind, port_image, slots, stops, readers, until),
             units: image.units,
             cycles,
             window,

@@ -17,22 +17,22 @@ use std::alloc::Global;
 pub fn lists_of(
     alloc: Global,
     image: &Image,
-    seat: &PortImage,
+    port_image: &PortImage,
 ) -> Result<(List<u32>, List<Stop>, Readers), Memory>
     requires image { IsWellFormed image.now }
-    requires seat { (p : ℕ) × IsPort image.now p seat.now }
-    ensures { IfOk result (λ lists. (lists.0 ≡ item_slots seat.now.work)
-        × AreStops (out_slots seat.now.outs) (in_slots seat.now.ins) image.now.slots lists.0 lists.1
-        × AreReaders (length seat.now.outs) seat.now.outs lists.2) }
+    requires port_image { (p : ℕ) × IsPort image.now p port_image.now }
+    ensures { IfOk result (λ lists. (lists.0 ≡ item_slots port_image.now.work)
+        × AreStops (out_slots port_image.now.outs) (in_slots port_image.now.ins) image.now.slots lists.0 lists.1
+        × AreReaders (length port_image.now.outs) port_image.now.outs lists.2) }
 {
-    let slots = slots_of(alloc, &seat.work)?;
+    let slots = slots_of(alloc, &port_image.work)?;
     let stops = stops_of(
         alloc,
         image.slots,
         slots.as_slice(),
-        seat.outs.as_slice(),
-        seat.ins.as_slice(),
+        port_image.outs.as_slice(),
+        port_image.ins.as_slice(),
     )?;
-    let readers = readers_of(alloc, seat.outs.as_slice())?;
+    let readers = readers_of(alloc, port_image.outs.as_slice())?;
     Ok((slots, stops, readers))
 }

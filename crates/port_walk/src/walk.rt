@@ -33,7 +33,7 @@ use std::marker::Model;
 #[derive(Drop)]
 pub struct Walk<'a, W: Word, P: Port<W>> {
     pub(crate) port: P,
-    seat: &'a PortImage,
+    port_image: &'a PortImage,
     slots: List<u32>,
     readers: Readers,
     stops: List<Stop>,
@@ -51,9 +51,9 @@ impl<'a, W: Word, P: Port<W>> Model for Walk<'a, W, P> {
 
     ghost Value = { Walked W.Feed };
 
-    ghost view = { λ a. view_of (record { view = P.seen a.port; rows = P.rows a.port; seat = a.seat.now; slots = a.slots; readers = a.readers; stops = a.stops; at = a.at; sent = a.sent; took = a.took; value = a.value; turn = a.turn; until = a.until }) };
+    ghost view = { λ a. view_of (record { view = P.seen a.port; rows = P.rows a.port; port_image = a.port_image.now; slots = a.slots; readers = a.readers; stops = a.stops; at = a.at; sent = a.sent; took = a.took; value = a.value; turn = a.turn; until = a.until }) };
 
-    ghost invariant = { λ a. IsKept W.Word (record { view = P.seen a.port; rows = P.rows a.port; seat = a.seat.now; slots = a.slots; readers = a.readers; stops = a.stops; at = a.at; sent = a.sent; took = a.took; value = a.value; turn = a.turn; until = a.until }) };
+    ghost invariant = { λ a. IsKept W.Word (record { view = P.seen a.port; rows = P.rows a.port; port_image = a.port_image.now; slots = a.slots; readers = a.readers; stops = a.stops; at = a.at; sent = a.sent; took = a.took; value = a.value; turn = a.turn; until = a.until }) };
 }
 
 /// What comes next where a Put is missing: an Ask of a reader that isn't known to have finished so many turns, or the
@@ -103,11 +103,11 @@ fn enter<W: Word, P: Port<W>>(port: &mut P, slots: &[u32], to: u32, runs: bool) 
 }
 
 impl<'a, W: Word, P: Port<W>> Walk<'a, W, P> {
-    /// The walk of a port that is before its first turn up to the turn `until`, where the image has it as `seat`, and
+    /// The walk of a port that is before its first turn up to the turn `until`, where the image has it as `port_image`, and
     /// these are the lists of `lists_of`.
     pub fn new(
         port: P,
-        seat: &'a PortImage,
+        port_image: &'a PortImage,
         slots: List<u32>,
         stops: List<Stop>,
         readers: Readers,
@@ -115,11 +115,11 @@ impl<'a, W: Word, P: Port<W>> Walk<'a, W, P> {
     ) -> Walk<'a, W, P>
         requires image { IsWellFormed (P.seen port).image }
         requires valid { InEachLane W.Word (λ view. IsValidStimulus view.stimulus) (P.seen port) }
-        requires seat { IsPort (P.seen port).image (P.seen port).port seat.now }
+        requires port_image { IsPort (P.seen port).image (P.seen port).port port_image.now }
         requires first { P.seen port ≡ at_first (P.seen port).image (P.seen port).stimulus (P.seen port).port }
-        requires slots { slots ≡ item_slots seat.now.work }
-        requires stops { AreStops (out_slots seat.now.outs) (in_slots seat.now.ins) (P.seen port).image.slots slots stops }
-        requires readers { AreReaders (length seat.now.outs) seat.now.outs readers }
+        requires slots { slots ≡ item_slots port_image.now.work }
+        requires stops { AreStops (out_slots port_image.now.outs) (in_slots port_image.now.ins) (P.seen port).image.slots slots stops }
+        requires readers { AreReaders (length port_image.now.outs) port_image.now.outs readers }
         requires until { InEachLane W.Word (λ view. until ≤ last_turn view) (P.seen port) }
         ensures { result ≡ started (P.seen port) (P.rows port) until }
     {
@@ -132,7 +132,7 @@ impl<'a, W: Word, P: Port<W>> Walk<'a, W, P> {
         );
         Walk {
             port,
-            seat,
+            port_image,
             slots,
             readers,
             stops,

@@ -30,7 +30,7 @@ use Rattle.slot_words.specs.declared.pack_words.words.PackTaken.{PackTaken}
 use Rattle.slot_words.specs.declared.pack_words.words.PackTaken.TheVariants.{NotYet, Value}
 use Rattle.slot_words.specs.packed.Passes.{AreValues, CanPut, IsFit, IsFound, IsPut, IsTake, PackPassView, one_step}
 use Rattle.slot_words.specs.packed.Sound.{ArePassesSound, IsPackOf, Kept, PackKey, PackView}
-use Rattle.slot_words.specs.packed.Words.{HasPlanes, packed, packs, stamp_in, stamp_of, stimulus_of, turns_of}
+use Rattle.slot_words.specs.packed.Words.{HasPlanes, packed, packs, stamp_in, packed_stamp_of, stimulus_of, turns_of}
 
 -- ---- one bank
 
@@ -69,14 +69,14 @@ module _ (old : PackPassView) (fit : IsFit old) where
   found_seen new sender slot word number (Some n) (Value planes) planes_are is =
       let turn : ℕ = old.place.turn in
       let has : HasPlanes old.image old.feed sender slot turn number = is.2 in
-      let now : stamp_of number ≡ stamp_in turn = eqb-true (stamp_of number) (stamp_in turn) is.1 in
-      let same : planes ≡ has.planes = read_back turn n planes has.planes (is.0 ∙ has.is) (ap stamp_of is.0 ∙ now, planes_are.0, planes_are.1) in
+      let now : packed_stamp_of number ≡ stamp_in turn = eqb-true (packed_stamp_of number) (stamp_in turn) is.1 in
+      let same : planes ≡ has.planes = read_back turn n planes has.planes (is.0 ∙ has.is) (ap packed_stamp_of is.0 ∙ now, planes_are.0, planes_are.1) in
       (now, has.is ∙ ap (packed turn) (sym same), subst (AreValues old.image old.feed turn sender slot) (sym same) has.values, is.3)
   found_seen new sender slot word number (Some n) NotYet wrong is = absurd wrong
   found_seen new sender slot word number None (Value planes) wrong is = absurd wrong
   found_seen new sender slot word number None NotYet _ is = (other, is.1, is.2) where
-    other : stamp_of number ≢ stamp_in old.place.turn
-    other same = let yes : true ≡ false = sym (eq-eqb (stamp_of number) (stamp_in old.place.turn) same) ∙ is.0 in cc
+    other : packed_stamp_of number ≢ stamp_in old.place.turn
+    other same = let yes : true ≡ false = sym (eq-eqb (packed_stamp_of number) (stamp_in old.place.turn) same) ∙ is.0 in cc
 
   pub take_seen : (new : PackPassView) (slot : ℕ) (found : Option ℕ) (taken : PackTaken) → IsTakenOf found taken → HasTaken packs old slot found new → IsTake old slot taken new
   take_seen new slot found taken taken_is has = record {

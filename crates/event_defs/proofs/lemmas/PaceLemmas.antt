@@ -106,7 +106,7 @@ module _ (image : Image) (fits : IsWellFormed image) where
 
     pub stands : (x : Place) → CanStand x → ArePaced image banks until (updated place p x)
     stands x can = record {
-      places = λ q seat is_seat. each_updated (λ q (a : Place). IsPort image q seat → IsPlaceOf seat until a) place p x (λ is_p. subst (λ (s : PortImage). IsPlaceOf s until x) (same_port image p port seat is is_p) can.own) (λ q _. paced.places q seat) q is_seat;
+      places = λ q port_image is_seat. each_updated (λ q (a : Place). IsPort image q port_image → IsPlaceOf port_image until a) place p x (λ is_p. subst (λ (s : PortImage). IsPlaceOf s until x) (same_port image p port port_image is is_p) can.own) (λ q _. paced.places q port_image) q is_seat;
       wide = each_updated (λ q (a : Place). q < length image.ports → length a.known ≡ length image.ports) place p x (λ _. can.wide) (λ q _. paced.wide q);
       known = λ o q o_in q_in. le_turn q (known_of (updated place p x o) q) (each_updated (λ o (a : Place). o < length image.ports → known_of a q + 1 ≤ (place q).turn) place p x (λ _. can.known q q_in) (λ o _ in_o. paced.known o q in_o q_in) o o_in);
       pace = λ q i r link send reads. each_updated (λ q (a : Place). IsSend image q i link → KeepsPace banks link.slot a (updated place p x r)) place p x

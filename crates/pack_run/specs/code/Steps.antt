@@ -12,18 +12,18 @@ use Rattle.pack_run.specs.Pairs.{HasMadeAll}
 
 -- this is what the pass does next
 abbrev pub IsNextAction : PortImage → PackPassView → Upcoming → Type 0
-IsNextAction seat pass (action.Ask reader) = IsRunning pass × AsksNext seat pass.place 1 reader
-IsNextAction seat pass (action.Put slot) = IsRunning pass × PutsNext seat pass.place 1 slot
-IsNextAction seat pass (action.Take slot) = IsRunning pass × TakesNext seat pass.place slot
-IsNextAction seat pass action.Tell = IsRunning pass × TellsNext seat pass.place
-IsNextAction seat pass action.Done = HasMadeAll pass
+IsNextAction port_image pass (action.Ask reader) = IsRunning pass × AsksNext port_image pass.place 1 reader
+IsNextAction port_image pass (action.Put slot) = IsRunning pass × PutsNext port_image pass.place 1 slot
+IsNextAction port_image pass (action.Take slot) = IsRunning pass × TakesNext port_image pass.place slot
+IsNextAction port_image pass action.Tell = IsRunning pass × TellsNext port_image pass.place
+IsNextAction port_image pass action.Done = HasMadeAll pass
 
 -- this is the next event of its place
 pub record IsUpcoming (pass : PackPassView) (upcoming : Upcoming) : Type 0 where
   pub fit : IsFit pass
-  pub seat : PortImage
-  pub is : IsPort pass.image pass.port seat
-  pub next : IsNextAction seat pass upcoming
+  pub port_image : PortImage
+  pub is : IsPort pass.image pass.port port_image
+  pub next : IsNextAction port_image pass upcoming
 
 -- the answer of an Ask
 abbrev pub IsAnswer : ℕ → ℕ → Step → Type 0

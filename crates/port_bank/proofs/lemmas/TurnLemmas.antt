@@ -22,8 +22,8 @@ use Rattle.port_bank.specs.Flat.{place_count, operand_of, IsWithin}
 use Rattle.port_bank.specs.Reads.{IsAtHand, value_taken, now_in, past_in}
 
 -- what stands in the place of a port is that port
-pub seat_found : (image : Image) (p : ℕ) (port seat : PortImage) (ports : List PortImage) → IsPort image p port → ports ≡ image.ports → seat ≡ get_or ports p seat → port ≡ seat
-seat_found image p port seat ports is whole there = sym (there ∙ ap (λ xs. get_or xs p seat) whole ∙ get_or_from_slice_get image.ports p port seat is)
+pub port_image_found : (image : Image) (p : ℕ) (port port_image : PortImage) (ports : List PortImage) → IsPort image p port → ports ≡ image.ports → port_image ≡ get_or ports p port_image → port ≡ port_image
+port_image_found image p port port_image ports is whole there = sym (there ∙ ap (λ xs. get_or xs p port_image) whole ∙ get_or_from_slice_get image.ports p port port_image is)
 
 -- the image makes a right step at the port's turn
 pub turn_meets : (view : PortView) → IsWellFormed view.image → 1 ≤ view.turn → IsImageStep view.image view.stimulus view.turn (past_in view) (now_in view)

@@ -29,12 +29,12 @@ past_ports image banks p i b r inside same =
     absurd (omega arith)
 
 -- whoever a port asks is a port
-pub asked_in : (image : Image) → IsWellFormed image → (p : ℕ) (seat : PortImage) → IsPort image p seat → (place : Place) (banks reader : ℕ) → AsksNext seat place banks reader → reader < length image.ports
-asked_in image fits p seat is place banks reader asks = reader_in image fits p asks.i reader asks.link (record { port = seat; is = is; link_is = asks.sends.is }) asks.reads
+pub asked_in : (image : Image) → IsWellFormed image → (p : ℕ) (port_image : PortImage) → IsPort image p port_image → (place : Place) (banks reader : ℕ) → AsksNext port_image place banks reader → reader < length image.ports
+asked_in image fits p port_image is place banks reader asks = reader_in image fits p asks.i reader asks.link (record { port = port_image; is = is; link_is = asks.sends.is }) asks.reads
 
 -- a reader that is known to have finished too few turns is asked again
-pub asks_again : (seat : PortImage) (place : Place) (banks reader n : ℕ) → reader < length place.known → AsksNext seat place banks reader → n + banks < place.turn → AsksNext seat (after_ask place reader n) banks reader
-asks_again seat place banks reader n room asks less = record {
+pub asks_again : (port_image : PortImage) (place : Place) (banks reader n : ℕ) → reader < length place.known → AsksNext port_image place banks reader → n + banks < place.turn → AsksNext port_image (after_ask place reader n) banks reader
+asks_again port_image place banks reader n room asks less = record {
   i = asks.i;
   link = asks.link;
   sends = asks.sends;
@@ -53,55 +53,55 @@ action_of pass Tell = action.Tell
 
 module _ (until : ℕ) (old new : PassView) (fit : IsFit old) where
   abbrev Next : PortImage → Action → Type 0
-  Next seat a = IsNext seat old.place old.banks until (value_there old) a
+  Next port_image a = IsNext port_image old.place old.banks until (value_there old) a
 
-  makes_next : (seat : PortImage) (e : Event) → old.place.turn ≤ until → Makes seat old new e → Next seat (action_of old e)
-  makes_next seat (Ask reader) early makes = (early, makes.asks.next)
-  makes_next seat (Put slot) early makes = (early, makes.next, refl)
-  makes_next seat (Take slot) early makes = (early, makes.looks.next)
-  makes_next seat Tell early makes = (early, makes.next)
+  makes_next : (port_image : PortImage) (e : Event) → old.place.turn ≤ until → Makes port_image old new e → Next port_image (action_of old e)
+  makes_next port_image (Ask reader) early makes = (early, makes.asks.next)
+  makes_next port_image (Put slot) early makes = (early, makes.next, refl)
+  makes_next port_image (Take slot) early makes = (early, makes.looks.next)
+  makes_next port_image Tell early makes = (early, makes.next)
 
-  one : (seat other : PortImage) (a b : Action) → IsPort old.image old.port seat → IsPort old.image old.port other → Next seat a → Next other b → a ≡ b
-  one seat other a b is other_is next other_next =
-      one_next old.image fit.runs.image_fits old.port seat is old.place old.banks until (value_there old) a b next
-      (subst (λ s. Next s b) (same_port old.image old.port other seat other_is is) other_next)
+  one : (port_image other : PortImage) (a b : Action) → IsPort old.image old.port port_image → IsPort old.image old.port other → Next port_image a → Next other b → a ≡ b
+  one port_image other a b is other_is next other_next =
+      one_next old.image fit.runs.image_fits old.port port_image is old.place old.banks until (value_there old) a b next
+      (subst (λ s. Next s b) (same_port old.image old.port other port_image other_is is) other_next)
 
-  ask_not_waits : (e : Event) (seat other : PortImage) → IsPort old.image old.port seat → IsPort old.image old.port other → old.place.turn ≤ until → Makes seat old new e → AskWaits other old new → ⊥
-  ask_not_waits (Ask reader) seat other is other_is early makes waits = let enough = makes.enough in let less = waits.less in absurd (omega arith)
-  ask_not_waits (Put slot) seat other is other_is early makes waits = let e : action.Put slot (value_there old slot) ≡ action.Ask waits.reader = one seat other (action.Put slot (value_there old slot)) (action.Ask waits.reader) is other_is (makes_next seat (Put slot) early makes) (early, waits.asks.next) in cc
-  ask_not_waits (Take slot) seat other is other_is early makes waits = let e : action.Take slot ≡ action.Ask waits.reader = one seat other (action.Take slot) (action.Ask waits.reader) is other_is (makes_next seat (Take slot) early makes) (early, waits.asks.next) in cc
-  ask_not_waits Tell seat other is other_is early makes waits = let e : action.Tell ≡ action.Ask waits.reader = one seat other (action.Tell) (action.Ask waits.reader) is other_is (makes_next seat Tell early makes) (early, waits.asks.next) in cc
+  ask_not_waits : (e : Event) (port_image other : PortImage) → IsPort old.image old.port port_image → IsPort old.image old.port other → old.place.turn ≤ until → Makes port_image old new e → AskWaits other old new → ⊥
+  ask_not_waits (Ask reader) port_image other is other_is early makes waits = let enough = makes.enough in let less = waits.less in absurd (omega arith)
+  ask_not_waits (Put slot) port_image other is other_is early makes waits = let e : action.Put slot (value_there old slot) ≡ action.Ask waits.reader = one port_image other (action.Put slot (value_there old slot)) (action.Ask waits.reader) is other_is (makes_next port_image (Put slot) early makes) (early, waits.asks.next) in cc
+  ask_not_waits (Take slot) port_image other is other_is early makes waits = let e : action.Take slot ≡ action.Ask waits.reader = one port_image other (action.Take slot) (action.Ask waits.reader) is other_is (makes_next port_image (Take slot) early makes) (early, waits.asks.next) in cc
+  ask_not_waits Tell port_image other is other_is early makes waits = let e : action.Tell ≡ action.Ask waits.reader = one port_image other (action.Tell) (action.Ask waits.reader) is other_is (makes_next port_image Tell early makes) (early, waits.asks.next) in cc
 
-  take_not_waits : (e : Event) (seat other : PortImage) → IsPort old.image old.port seat → IsPort old.image old.port other → old.place.turn ≤ until → Makes seat old new e → TakeWaits other old new → ⊥
-  take_not_waits (Ask reader) seat other is other_is early makes waits = let e : action.Ask reader ≡ action.Take waits.slot = one seat other (action.Ask reader) (action.Take waits.slot) is other_is (makes_next seat (Ask reader) early makes) (early, waits.looks.next) in cc
-  take_not_waits (Put slot) seat other is other_is early makes waits = let e : action.Put slot (value_there old slot) ≡ action.Take waits.slot = one seat other (action.Put slot (value_there old slot)) (action.Take waits.slot) is other_is (makes_next seat (Put slot) early makes) (early, waits.looks.next) in cc
-  take_not_waits (Take slot) seat other is other_is early makes waits = let now = makes.now in let less = waits.less in absurd (omega arith)
-  take_not_waits Tell seat other is other_is early makes waits = let e : action.Tell ≡ action.Take waits.slot = one seat other (action.Tell) (action.Take waits.slot) is other_is (makes_next seat Tell early makes) (early, waits.looks.next) in cc
+  take_not_waits : (e : Event) (port_image other : PortImage) → IsPort old.image old.port port_image → IsPort old.image old.port other → old.place.turn ≤ until → Makes port_image old new e → TakeWaits other old new → ⊥
+  take_not_waits (Ask reader) port_image other is other_is early makes waits = let e : action.Ask reader ≡ action.Take waits.slot = one port_image other (action.Ask reader) (action.Take waits.slot) is other_is (makes_next port_image (Ask reader) early makes) (early, waits.looks.next) in cc
+  take_not_waits (Put slot) port_image other is other_is early makes waits = let e : action.Put slot (value_there old slot) ≡ action.Take waits.slot = one port_image other (action.Put slot (value_there old slot)) (action.Take waits.slot) is other_is (makes_next port_image (Put slot) early makes) (early, waits.looks.next) in cc
+  take_not_waits (Take slot) port_image other is other_is early makes waits = let now = makes.now in let less = waits.less in absurd (omega arith)
+  take_not_waits Tell port_image other is other_is early makes waits = let e : action.Tell ≡ action.Take waits.slot = one port_image other (action.Tell) (action.Take waits.slot) is other_is (makes_next port_image Tell early makes) (early, waits.looks.next) in cc
 
   -- what has to wait is no event
   pub event_not_wait : (e : Event) → IsEvent until old e new → IsWait until old new → ⊥
   event_not_wait e made wait = elim wait.waits [
-    | inl ask ↦ ask_not_waits e made.seat wait.seat made.is wait.is made.early made.makes ask
-    | inr take ↦ take_not_waits e made.seat wait.seat made.is wait.is made.early made.makes take
+    | inl ask ↦ ask_not_waits e made.port_image wait.port_image made.is wait.is made.early made.makes ask
+    | inr take ↦ take_not_waits e made.port_image wait.port_image made.is wait.is made.early made.makes take
   ]
 
 -- ---- what is short after a look that has to wait
 
-module _ (old : PassView) (fit : IsFit old) (seat : PortImage) (is : IsPort old.image old.port seat) where
-  pub asked_again : (reader n : ℕ) → AsksNext seat old.place old.banks reader → n + old.banks < old.place.turn → AsksNext seat (after_ask old.place reader n) old.banks reader
-  asked_again reader n asks = asks_again seat old.place old.banks reader n (omega (arith, fit.wide, asked_in old.image fit.runs.image_fits old.port seat is old.place old.banks reader asks)) asks
+module _ (old : PassView) (fit : IsFit old) (port_image : PortImage) (is : IsPort old.image old.port port_image) where
+  pub asked_again : (reader n : ℕ) → AsksNext port_image old.place old.banks reader → n + old.banks < old.place.turn → AsksNext port_image (after_ask old.place reader n) old.banks reader
+  asked_again reader n asks = asks_again port_image old.place old.banks reader n (omega (arith, fit.wide, asked_in old.image fit.runs.image_fits old.port port_image is old.place old.banks reader asks)) asks
 
-  ask_short : (until : ℕ) (new : PassView) → old.place.turn ≤ until → AskWaits seat old new → IsShort until new
+  ask_short : (until : ℕ) (new : PassView) → old.place.turn ≤ until → AskWaits port_image old new → IsShort until new
   ask_short until new early waits = subst (IsShort until) (sym waits.asks.is) (record {
-    seat = seat;
+    port_image = port_image;
     is = is;
     early = early;
     short = inl (record { reader = waits.reader; next = asked_again waits.reader new.last.number waits.asks.next waits.less; word = refl; less = waits.less });
   })
 
-  take_short : (until : ℕ) (new : PassView) → old.place.turn ≤ until → TakeWaits seat old new → IsShort until new
+  take_short : (until : ℕ) (new : PassView) → old.place.turn ≤ until → TakeWaits port_image old new → IsShort until new
   take_short until new early waits = subst (IsShort until) (sym waits.looks.is) (record {
-    seat = seat;
+    port_image = port_image;
     is = is;
     early = early;
     short = inr (record { slot = waits.slot; next = waits.looks.next; i = waits.looks.i; source = record { sent = waits.looks.source.sent; send = waits.looks.source.send; same_slot = waits.looks.source.same_slot }; word = refl; less = waits.less });
@@ -109,8 +109,8 @@ module _ (old : PassView) (fit : IsFit old) (seat : PortImage) (is : IsPort old.
 
 pub wait_short : (until : ℕ) (old new : PassView) → IsFit old → IsWait until old new → IsShort until new
 wait_short until old new fit wait = elim wait.waits [
-  | inl ask ↦ ask_short old fit wait.seat wait.is until new wait.early ask
-  | inr take ↦ take_short old fit wait.seat wait.is until new wait.early take
+  | inl ask ↦ ask_short old fit wait.port_image wait.is until new wait.early ask
+  | inr take ↦ take_short old fit wait.port_image wait.is until new wait.early take
 ]
 
 -- ---- nothing is short after an event
@@ -119,7 +119,7 @@ module _ (until : ℕ) (old : PassView) (fit : IsFit old) where
   -- a step that looked at a word of a send, or wrote one
   sent_not_short : (place : Place) (p i n : ℕ) → place.turn ≡ old.place.turn → old.place.turn ≤ stamp_of n → IsShort until (one_step old place (word_now old p i) n) → ⊥
   sent_not_short place p i n turn stamp short = elim short.short [
-    | inl ask ↦ past_ports old.image old.banks p i (old.place.turn % old.banks) ask.reader (asked_in old.image fit.runs.image_fits old.port short.seat short.is place old.banks ask.reader ask.next) ask.word
+    | inl ask ↦ past_ports old.image old.banks p i (old.place.turn % old.banks) ask.reader (asked_in old.image fit.runs.image_fits old.port short.port_image short.is place old.banks ask.reader ask.next) ask.word
     | inr take ↦ let less = take.less in absurd (omega arith)
   ]
 
@@ -130,10 +130,10 @@ module _ (until : ℕ) (old : PassView) (fit : IsFit old) where
     | inr take ↦ past_ports old.image old.banks take.next.link.sender take.i (place.turn % old.banks) r inside (sym take.word)
   ]
 
-  module _ (new : PassView) (seat : PortImage) (is : IsPort old.image old.port seat) where
-    makes_not_short : (e : Event) → Makes seat old new e → IsShort until new → ⊥
+  module _ (new : PassView) (port_image : PortImage) (is : IsPort old.image old.port port_image) where
+    makes_not_short : (e : Event) → Makes port_image old new e → IsShort until new → ⊥
     makes_not_short (Ask reader) makes short =
-        told_not_short (after_ask old.place reader new.last.number) reader new.last.number (asked_in old.image fit.runs.image_fits old.port seat is old.place old.banks reader makes.asks.next) makes.enough (subst (IsShort until) makes.asks.is short)
+        told_not_short (after_ask old.place reader new.last.number) reader new.last.number (asked_in old.image fit.runs.image_fits old.port port_image is old.place old.banks reader makes.asks.next) makes.enough (subst (IsShort until) makes.asks.is short)
     makes_not_short (Put slot) makes short =
         let stamp = stamp_in old.place.turn (value_there old slot) in
         sent_not_short (after_put old.place slot) old.port makes.next.i (4 * old.place.turn + code_of (value_there old slot)) refl (subst (λ k. old.place.turn ≤ k) (sym stamp) (omega arith)) (subst (IsShort until) makes.is short)
@@ -144,4 +144,4 @@ module _ (until : ℕ) (old : PassView) (fit : IsFit old) where
         told_not_short (after_tell old.place) old.port old.place.turn fit.inside (omega arith) (subst (IsShort until) makes.is short)
 
 pub event_not_short : (until : ℕ) (old new : PassView) → IsFit old → (e : Event) → IsEvent until old e new → IsShort until new → ⊥
-event_not_short until old new fit e made = makes_not_short until old fit new made.seat made.is e made.makes
+event_not_short until old new fit e made = makes_not_short until old fit new made.port_image made.is e made.makes

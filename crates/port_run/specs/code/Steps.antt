@@ -14,9 +14,9 @@ use Rattle.port_run.specs.Steps.{value_there}
 pub record IsUpcoming (until : ℕ) (pass : PassView) (action : Action) : Type 0 where
   pub fit : IsFit pass
   pub few : until ≤ turns_of pass.image pass.feed
-  pub seat : PortImage
-  pub is : IsPort pass.image pass.port seat
-  pub next : IsNext seat pass.place pass.banks until (value_there pass) action
+  pub port_image : PortImage
+  pub is : IsPort pass.image pass.port port_image
+  pub next : IsNext port_image pass.place pass.banks until (value_there pass) action
 
 -- the answer of an Ask
 abbrev pub IsAnswer : ℕ → ℕ → ℕ → Step → Type 0

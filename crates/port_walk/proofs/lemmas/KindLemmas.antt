@@ -9,8 +9,8 @@ use Rattle.image_defs.specs.WellFormed.{IsWellFormed, IsHost}
 use Rattle.port_walk.specs.Kinds.{rows_of}
 
 -- a port that was looked up
-pub seat_there : (image : Image) (p : ℕ) (seat : PortImage) (ports : List PortImage) → p < length image.ports → ports ≡ image.ports → seat ≡ get_or ports p seat → IsPort image p seat
-seat_there image p seat ports within same is = slice_get_read image.ports (length image.ports) p seat refl within (is ∙ ap (λ xs. get_or xs p seat) same)
+pub port_image_there : (image : Image) (p : ℕ) (port_image : PortImage) (ports : List PortImage) → p < length image.ports → ports ≡ image.ports → port_image ≡ get_or ports p port_image → IsPort image p port_image
+port_image_there image p port_image ports within same is = slice_get_read image.ports (length image.ports) p port_image refl within (is ∙ ap (λ xs. get_or xs p port_image) same)
 
 -- the last port is the host
 pub host_number : (image : Image) (p : ℕ) → p + 1 ≡ length image.ports → host_of image ≡ p
@@ -29,12 +29,12 @@ module _ (image : Image) (p : ℕ) (rows : ℕ × ℕ) where
     | inr h ↦ rw h.0 refl
   ]
 
-module _ (image : Image) (good : IsWellFormed image) (p : ℕ) (seat : PortImage) (is : IsPort image p seat) (rows : ℕ × ℕ) where
-  pub host_last : IsHost seat.work → p + 1 ≡ length image.ports
-  host_last host = (good.host p seat is).0 host
+module _ (image : Image) (good : IsWellFormed image) (p : ℕ) (port_image : PortImage) (is : IsPort image p port_image) (rows : ℕ × ℕ) where
+  pub host_last : IsHost port_image.work → p + 1 ≡ length image.ports
+  host_last host = (good.host p port_image is).0 host
 
-  pub rows_first : IsHost seat.work → Some rows ≡ rows_of image p rows
+  pub rows_first : IsHost port_image.work → Some rows ≡ rows_of image p rows
   rows_first host = sym (has_rows image p rows (host_last host))
 
-  pub none_first : (IsHost seat.work → ⊥) → None ≡ rows_of image p rows
-  none_first other = sym (has_none image p rows (λ last. other ((good.host p seat is).1 last)))
+  pub none_first : (IsHost port_image.work → ⊥) → None ≡ rows_of image p rows
+  none_first other = sym (has_none image p rows (λ last. other ((good.host p port_image is).1 last)))

@@ -13,11 +13,11 @@ pub record CanEnter (view : PortView) (slots : List ℕ) (to : ℕ) (runs : Bool
   pub fresh : view.begun ≡ false
   pub none : view.executed ≡ 0
   pub more : runs ≡ true → view.turn ≤ last_turn view
-  pub seat : PortImage
-  pub is : IsPort view.image view.port seat
-  pub slots_are : slots ≡ item_slots seat.work
+  pub port_image : PortImage
+  pub is : IsPort view.image view.port port_image
+  pub slots_are : slots ≡ item_slots port_image.work
   pub within : to ≤ length slots
-  pub received_before : (k slot i : ℕ) (link : LinkIn) → k < to → slice_get slots k ≡ Some slot → slice_get seat.ins i ≡ Some link → link.slot < slot → i < view.received
+  pub received_before : (k slot i : ℕ) (link : LinkIn) → k < to → slice_get slots k ≡ Some slot → slice_get port_image.ins i ≡ Some link → link.slot < slot → i < view.received
 
 -- it has begun and these items are executed, if the port is to run it
 abbrev pub HasEntered : {S : Type 0} → View S → View S → ℕ → Bool → Type 0

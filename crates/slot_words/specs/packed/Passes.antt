@@ -15,7 +15,7 @@ use Rattle.slot_words.specs.declared.pack_words.words.PackTaken.{PackTaken}
 use Rattle.slot_words.specs.declared.pack_words.words.PackTaken.TheVariants.{NotYet, Value}
 use Rattle.slot_words.specs.Layout.{send_word}
 use Rattle.slot_words.specs.Passes as words
-use Rattle.slot_words.specs.packed.Words.{packed, packs, stamp_in, stamp_of, stimulus_of, turns_of}
+use Rattle.slot_words.specs.packed.Words.{packed, packs, stamp_in, packed_stamp_of, stimulus_of, turns_of}
 pub use Rattle.slot_words.specs.Passes.{AreFirstPasses, CanTake, CanTell, IsFirstPass, IsKeyOf, IsMade, IsOf, one_step}
 
 abbrev pub BarView : Type 0
@@ -64,10 +64,10 @@ WasSentBefore = words.WasSentBefore packs
 -- it is the word of this turn; else it is that of a turn before
 abbrev pub IsFound : PackPassView → ℕ → ℕ → ℕ → ℕ → PackTaken → PackPassView → Type 0
 IsFound old sender slot word number (Value planes) new =
-    (stamp_of number ≡ stamp_in old.place.turn) × (number ≡ packed old.place.turn planes) × AreValues old.image old.feed old.place.turn sender slot planes
+    (packed_stamp_of number ≡ stamp_in old.place.turn) × (number ≡ packed old.place.turn planes) × AreValues old.image old.feed old.place.turn sender slot planes
     × (new ≡ one_step old (after_take old.place slot) word number)
 IsFound old sender slot word number NotYet new =
-    (stamp_of number ≢ stamp_in old.place.turn) × WasSentBefore old.image old.feed sender slot old.place.turn number
+    (packed_stamp_of number ≢ stamp_in old.place.turn) × WasSentBefore old.image old.feed sender slot old.place.turn number
     × (new ≡ one_step old old.place word number)
 
 -- it read the word of the send that comes by this link

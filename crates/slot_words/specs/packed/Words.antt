@@ -17,8 +17,8 @@ use Rattle.slot_words.specs.declared.pack_words.words.PackTaken.TheVariants.{Not
 abbrev pub stamp_in : ℕ → ℕ
 stamp_in turn = turn % 16
 
-abbrev pub stamp_of : ℕ → ℕ
-stamp_of word = word % 16
+abbrev pub packed_stamp_of : ℕ → ℕ
+packed_stamp_of word = word % 16
 
 -- the word of planes in a turn: the stamp in 4 bits, and a bit a lane for each of the planes
 abbrev pub packed : ℕ → Planes → ℕ
@@ -26,8 +26,8 @@ packed turn planes = stamp_in turn + 16 * planes.low + 2 ^ (LANES + 4) * planes.
 
 -- what a word gives in a turn: its planes where it has the turn's stamp
 abbrev pub IsReadIn : ℕ → ℕ → PackTaken → Type 0
-IsReadIn word turn (Value planes) = (stamp_of word ≡ stamp_in turn) × (planes.low ≡ word / 16 % 2 ^ LANES) × (planes.high ≡ word / 2 ^ (LANES + 4))
-IsReadIn word turn NotYet = stamp_of word ≢ stamp_in turn
+IsReadIn word turn (Value planes) = (packed_stamp_of word ≡ stamp_in turn) × (planes.low ≡ word / 16 % 2 ^ LANES) × (planes.high ≡ word / 2 ^ (LANES + 4))
+IsReadIn word turn NotYet = packed_stamp_of word ≢ stamp_in turn
 
 -- ---- lanes
 
@@ -51,7 +51,7 @@ pub record HasPlanes (image : Image) (lanes : Lanes) (p slot turn word : ℕ) : 
 
 -- the word has the stamp of this turn
 abbrev pub is_of : ℕ → ℕ → Bool
-is_of word turn = stamp_of word == stamp_in turn
+is_of word turn = packed_stamp_of word == stamp_in turn
 
 -- packed words, of one bank, as the rule speaks of words
 abbrev pub packs : Ghosts Packed Lanes

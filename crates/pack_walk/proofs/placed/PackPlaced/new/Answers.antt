@@ -3,22 +3,22 @@ use Rattle.image_defs.specs.Places.{IsPort}
 use Rattle.image_defs.specs.Ports.{at_first}
 use Rattle.image_defs.specs.WellFormed.{IsWellFormed}
 use Rattle.port_bank.specs.Packed.{PackPortView}
-use Rattle.port_walk.proofs.lemmas.KindLemmas.{seat_there}
+use Rattle.port_walk.proofs.lemmas.KindLemmas.{port_image_there}
 use Rattle.pack_walk.proofs.PlacedLemmas.{all_valid, all_turns}
 use Rattle.pack_walk.proofs.placed.PackPlaced.new.Goals as goal
 
-pub lists_of-requires-clause-seat : goal.lists_of-requires-clause-seat
-lists_of-requires-clause-seat c =
-    (c.args.port, seat_there c.args.image.now c.args.port c.index-as_slice-port.result c.as_slice.result.now c.requires.there c.as_slice.ensures c.index-as_slice-port.is)
+pub lists_of-requires-clause-port_image : goal.lists_of-requires-clause-port_image
+lists_of-requires-clause-port_image c =
+    (c.args.port, port_image_there c.args.image.now c.args.port c.index-as_slice-port.result c.as_slice.result.now c.requires.there c.as_slice.ensures c.index-as_slice-port.is)
 
 pub new-requires-clause-valid : goal.new-requires-clause-valid
 new-requires-clause-valid c = all_valid c.args.image.now c.args.lanes.now c.args.port _ c.in_ok-kind.ensures.view c.requires.lanes
 
-pub new-requires-clause-seat : goal.new-requires-clause-seat
-new-requires-clause-seat c =
-    let seat = c.index-as_slice-port.result in
-    let is = seat_there c.args.image.now c.args.port seat c.as_slice.result.now c.requires.there c.as_slice.ensures c.index-as_slice-port.is in
-    subst (λ (view : PackPortView). IsPort view.image view.port seat) (sym c.in_ok-kind.ensures.view) is
+pub new-requires-clause-port_image : goal.new-requires-clause-port_image
+new-requires-clause-port_image c =
+    let port_image = c.index-as_slice-port.result in
+    let is = port_image_there c.args.image.now c.args.port port_image c.as_slice.result.now c.requires.there c.as_slice.ensures c.index-as_slice-port.is in
+    subst (λ (view : PackPortView). IsPort view.image view.port port_image) (sym c.in_ok-kind.ensures.view) is
 
 pub new-requires-clause-until : goal.new-requires-clause-until
 new-requires-clause-until c = all_turns c.args.image.now c.args.lanes.now c.args.port _ c.in_ok-kind.ensures.view _ (ap (λ n. c.args.image.now.units * n) c.cycles.ensures)

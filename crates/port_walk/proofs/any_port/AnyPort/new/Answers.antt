@@ -3,15 +3,15 @@ use Rattle.net_defs.specs.Valid.{IsValidStimulus}
 use Rattle.image_defs.specs.Places.{IsPort}
 use Rattle.image_defs.specs.Ports.{PortView, at_first}
 use Rattle.image_defs.specs.WellFormed.{IsWellFormed}
-use Rattle.port_walk.proofs.lemmas.KindLemmas.{seat_there}
+use Rattle.port_walk.proofs.lemmas.KindLemmas.{port_image_there}
 use Rattle.port_walk.proofs.any_port.AnyPort.new.Goals as goal
 
 pub bounds-as_slice-port : goal.bounds-as_slice-port
 bounds-as_slice-port c = omega (arith, c.requires.there, ap length c.as_slice.ensures)
 
-pub lists_of-requires-clause-seat : goal.lists_of-requires-clause-seat
-lists_of-requires-clause-seat c =
-    (c.args.port, seat_there c.args.image.now c.args.port c.index-as_slice-port.result c.as_slice.result.now c.requires.there c.as_slice.ensures c.index-as_slice-port.is)
+pub lists_of-requires-clause-port_image : goal.lists_of-requires-clause-port_image
+lists_of-requires-clause-port_image c =
+    (c.args.port, port_image_there c.args.image.now c.args.port c.index-as_slice-port.result c.as_slice.result.now c.requires.there c.as_slice.ensures c.index-as_slice-port.is)
 
 pub new-requires-clause-image : goal.new-requires-clause-image
 new-requires-clause-image c = subst (λ (view : PortView). IsWellFormed view.image) (sym c.in_ok-kind.ensures.view) c.requires.image
@@ -19,11 +19,11 @@ new-requires-clause-image c = subst (λ (view : PortView). IsWellFormed view.ima
 pub new-requires-clause-valid : goal.new-requires-clause-valid
 new-requires-clause-valid c = subst (λ (view : PortView). IsValidStimulus view.stimulus) (sym c.in_ok-kind.ensures.view) c.requires.stimulus
 
-pub new-requires-clause-seat : goal.new-requires-clause-seat
-new-requires-clause-seat c =
-    let seat = c.index-as_slice-port.result in
-    let is = seat_there c.args.image.now c.args.port seat c.as_slice.result.now c.requires.there c.as_slice.ensures c.index-as_slice-port.is in
-    subst (λ (view : PortView). IsPort view.image view.port seat) (sym c.in_ok-kind.ensures.view) is
+pub new-requires-clause-port_image : goal.new-requires-clause-port_image
+new-requires-clause-port_image c =
+    let port_image = c.index-as_slice-port.result in
+    let is = port_image_there c.args.image.now c.args.port port_image c.as_slice.result.now c.requires.there c.as_slice.ensures c.index-as_slice-port.is in
+    subst (λ (view : PortView). IsPort view.image view.port port_image) (sym c.in_ok-kind.ensures.view) is
 
 pub new-requires-clause-first : goal.new-requires-clause-first
 new-requires-clause-first c = subst (λ (view : PortView). view ≡ at_first view.image view.stimulus view.port) (sym c.in_ok-kind.ensures.view) refl

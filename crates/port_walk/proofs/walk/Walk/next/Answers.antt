@@ -51,5 +51,5 @@ bounds-as_slice-self-inside g c =
 pub readers_at-readers-requires-clause-there : goal.readers_at-readers-requires-clause-there
 readers_at-readers-requires-clause-there g c =
     let link = link_sent g.W.Word c.self.invariant c.as_slice.result.now c.as_slice.ensures c.in-Send.is in
-    let within = slice_get_within c.self.inside.seat.now.outs c.self.inside.sent link.0 link.1.is in
+    let within = slice_get_within c.self.inside.port_image.now.outs c.self.inside.sent link.0 link.1.is in
     omega (arith, within, c.self.invariant.readers.count)
