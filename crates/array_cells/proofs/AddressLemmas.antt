@@ -7,7 +7,7 @@ use Rattle.std.proofs.lemmas.Nat.{shl_whole, pow_below}
 use Rattle.std.proofs.lemmas.Bool.{cases_lt}
 use Rattle.std.proofs.Math.Nat.{pow-le-pow_right}
 use Rattle.logic_four.specs.declared.V4.{V4}
-use Rattle.logic_four.specs.declared.V4.TheVariants.{Zero, One, Undef, HighZ}
+use Rattle.logic_four.specs.declared.V4.TheVariants.{Zero}
 use Rattle.logic_four.specs.Gates.{is_one, is_known}
 use Rattle.logic_four.specs.Memory.{bits_number, address_of}
 use Rattle.logic_four.proofs.lemmas.MemoryLemmas.{bits_number-within}
@@ -16,10 +16,7 @@ abbrev pub digit_of : V4 → ℕ
 digit_of bit = if is_one bit then 1 else 0
 
 digit_small : (bit : V4) → digit_of bit < 2
-digit_small Zero = omega arith
-digit_small One = omega arith
-digit_small Undef = omega arith
-digit_small HighZ = omega arith
+digit_small bit = grind arith
 
 bits_number-push : (bits : List V4) (bit : V4)
     → bits_number (bits ++ bit ∷ []) ≡ bits_number bits + digit_of bit * 2 ^ length bits

@@ -1,24 +1,20 @@
 -- Values that are written and read place by place.
-use Rattle.std.proofs.Common.{inl, inr, ◌≡◌, ◌≢◌, ◌⊎◌, ℕ, ◌+◌, ◌<◌, ◌≤◌, List, length, get_or, refl, sym, ◌∙◌, arith}
+use Rattle.std.proofs.Common.{inl, inr, ◌≡◌, ◌≢◌, ◌⊎◌, ℕ, ◌+◌, ◌<◌, ◌≤◌, List, length, get_or, sym, ◌∙◌, arith}
 use Rattle.std.proofs.lemmas.Bool.{cases_eq}
 use Rattle.std.proofs.lemmas.List.{ext_get_or}
 use Rattle.std.proofs.lemmas.List.FromFn.{length-map-range_with_len, get_or-map-range_with_len}
 use Rattle.logic_four.specs.declared.V4.{V4}
-use Rattle.logic_four.specs.declared.V4.TheVariants.{Zero, One, Undef, HighZ}
+use Rattle.logic_four.specs.declared.V4.TheVariants.{One, Undef}
 use Rattle.logic_four.specs.Packed.{packed_value}
 use Rattle.array_cells.specs.Places.{values_from}
 use Rattle.array_cells.specs.code.Places.{Writes, stored}
 
 -- unless the enable is 1, an undefined bit is stored
 pub stored_undefined : (we bit : V4) → we ≢ One → Undef ≡ stored we bit
-stored_undefined Zero bit apart = refl
-stored_undefined One bit apart = absurd (apart refl)
-stored_undefined Undef bit apart = refl
-stored_undefined HighZ bit apart = refl
+stored_undefined we bit apart = grind arith
 
 apart_before : (place base i : ℕ) → (place < base) ⊎ (base + (i + 1) ≤ place) → (place < base) ⊎ (base + i ≤ place)
-apart_before place base i (inl below) = inl below
-apart_before place base i (inr above) = inr (omega arith)
+apart_before place base i h = grind arith
 
 -- one place more is written
 pub Writes-more : (old new newer : List ℕ) (base i : ℕ) (f : ℕ → V4)

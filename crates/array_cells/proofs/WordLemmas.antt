@@ -7,7 +7,7 @@ use Rattle.std.proofs.lemmas.Nat.{row_fits, mul-le}
 use Rattle.std.proofs.lemmas.Option.{slice_get-get_or}
 use Rattle.std.specs.Prelude.{Some, None, slice_get}
 use Rattle.logic_four.specs.declared.V4.{V4}
-use Rattle.logic_four.specs.declared.V4.TheVariants.{Zero, One, Undef, HighZ}
+use Rattle.logic_four.specs.declared.V4.TheVariants.{Zero, Undef}
 use Rattle.logic_four.specs.Memory.{undefined_word, written_at}
 use Rattle.array_cells.specs.declared.cells.Cells.TheInside.{Inside}
 use Rattle.logic_four.specs.Packed.{packed_value}
@@ -165,17 +165,11 @@ map-const (b ∷ bits) v = ap (λ vs. v ∷ vs) (map-const bits v)
 
 pub written_at_stored : (we : V4) → we ≢ Zero → (k : ℕ) (words : List (List V4)) (d : List V4)
     → written_at we (Some k) words d ≡ set words k (map (stored we) d)
-written_at_stored Zero enabled k words d = absurd (enabled refl)
-written_at_stored One enabled k words d = refl
-written_at_stored Undef enabled k words d = ap (set words k) (sym (map-const d Undef))
-written_at_stored HighZ enabled k words d = ap (set words k) (sym (map-const d Undef))
+written_at_stored we enabled k words d = grind (arith, map-const d Undef)
 
 pub written_at_forgotten : (we : V4) → we ≢ Zero → (words : List (List V4)) (d : List V4)
     → written_at we None words d ≡ map (λ word. undefined_word (length word)) words
-written_at_forgotten Zero enabled words d = absurd (enabled refl)
-written_at_forgotten One enabled words d = refl
-written_at_forgotten Undef enabled words d = refl
-written_at_forgotten HighZ enabled words d = refl
+written_at_forgotten we enabled words d = grind arith
 
 -- a bit of a word
 pub bit_read : (packed : List ℕ) (w n : ℕ) (words : List (List V4)) (k i : ℕ) → words_of packed w n ≡ words

@@ -1,5 +1,5 @@
 -- The formula for two operands answers as the gates do.
-use Rattle.std.proofs.Common.{◌≡◌, ℕ, ◌+◌, ◌-◌, ◌%◌, ◌<◌, bit_and, bit_or, Bool, true, false, if◌then◌else◌, [], ◌∷◌, refl, sym, subst}
+use Rattle.std.proofs.Common.{◌≡◌, ℕ, ◌+◌, ◌-◌, ◌%◌, ◌<◌, bit_and, bit_or, Bool, true, false, ◌&&◌, if◌then◌else◌, [], ◌∷◌, refl, sym, subst, arith}
 use Rattle.std.specs.Prelude.{min, max}
 use Rattle.std.specs.Int.{bit_at}
 use Rattle.std.specs.Int.RustNames.{bit_xor}
@@ -8,34 +8,23 @@ use Rattle.logic_four.specs.declared.V4.{V4}
 use Rattle.logic_four.specs.declared.Kind.{Kind}
 use Rattle.logic_four.specs.declared.Kind.TheVariants.{And, Nand, Or, Nor, Xor, Xnor, Not, Buf, Tri, Bus}
 use Rattle.logic_four.specs.Gates.{gate_value}
-use Rattle.logic_four.proofs.lemmas.TestLemmas.{two_same}
+use Rattle.logic_four.proofs.lemmas.TestLemmas.{same}
 use Rattle.lane_planes.specs.declared.planes.Planes.{Planes}
 use Rattle.lane_planes.specs.Lanes.{lane_of}
-use Rattle.lane_planes.specs.Joins.{first_of, join_of, answer_of}
 use Rattle.lane_planes.proofs.WordLemmas.{Word, low_word, high_word, both, either, differ, apart, all_ones, no_ones}
-use Rattle.lane_planes.proofs.lemmas.LaneLemmas.{bits, in_lanes}
+use Rattle.lane_planes.proofs.lemmas.LaneLemmas.{bits, for_both, in_lanes}
 use Rattle.lane_planes.specs.code.Formula.{is_usual}
 use Rattle.lane_planes.specs.Formula.{turns_operands, turns_answer, is_parity, mask_of}
+
+-- what each kind passes this one passes
+at_kind : (test : Kind → Bool) (kind : Kind)
+    → (test And && (test Nand && (test Or && (test Nor && (test Xor && (test Xnor && (test Not && (test Buf && (test Tri && test Bus))))))))) ≡ true
+    → test kind ≡ true
+at_kind test kind all = grind arith
 
 -- the gate of two operands
 abbrev gate_pair : Kind → V4 → V4 → V4
 gate_pair kind v w = gate_value kind (v ∷ w ∷ [])
-
--- two operands joined one after the other
-abbrev join_pair : Kind → V4 → V4 → V4
-join_pair kind v w = answer_of kind (join_of kind (first_of kind v) w)
-
-pub other_is : (kind : Kind) (v w : V4) → join_pair kind v w ≡ gate_pair kind v w
-other_is And v w = two_same (join_pair And) (gate_pair And) refl v w
-other_is Nand v w = two_same (join_pair Nand) (gate_pair Nand) refl v w
-other_is Or v w = two_same (join_pair Or) (gate_pair Or) refl v w
-other_is Nor v w = two_same (join_pair Nor) (gate_pair Nor) refl v w
-other_is Xor v w = two_same (join_pair Xor) (gate_pair Xor) refl v w
-other_is Xnor v w = two_same (join_pair Xnor) (gate_pair Xnor) refl v w
-other_is Not v w = two_same (join_pair Not) (gate_pair Not) refl v w
-other_is Buf v w = two_same (join_pair Buf) (gate_pair Buf) refl v w
-other_is Tri v w = two_same (join_pair Tri) (gate_pair Tri) refl v w
-other_is Bus v w = two_same (join_pair Bus) (gate_pair Bus) refl v w
 
 -- a mask, and its bit in every lane
 abbrev bit_of : Bool → ℕ
@@ -57,19 +46,17 @@ low_bit m n r x y z w = min (((min ((x + m) % 2) (max ((z + m) % 2) r) + min ((z
 abbrev lane_bits : ℕ → ℕ → ℕ → ℕ → ℕ → ℕ → ℕ → V4
 lane_bits m n r x y z w = bits (low_bit m n r x y z w) (high_bit m r x y z w)
 
+-- it answers as the kind for each choice of the operands' bits
+abbrev agrees : Kind → Bool
+agrees kind = for_both (λ x. for_both (λ y. for_both (λ z. for_both (λ w.
+    same (lane_bits (bit_of (turns_operands kind)) (bit_of (turns_answer kind)) (bit_of (is_parity kind)) x y z w) (gate_pair kind (bits x y) (bits z w))))))
+
 pub pair_bits : (kind : Kind) (p q : Planes) (k : ℕ) → is_usual kind ≡ true
     → lane_bits (bit_of (turns_operands kind)) (bit_of (turns_answer kind)) (bit_of (is_parity kind)) (bit_at p.low k) (bit_at p.high k) (bit_at q.low k) (bit_at q.high k)
     ≡ gate_value kind (lane_of p k ∷ lane_of q k ∷ [])
-pair_bits And p q k usual = in_lanes p q k (lane_bits 0 0 0) (gate_pair And) refl
-pair_bits Nand p q k usual = in_lanes p q k (lane_bits 0 1 0) (gate_pair Nand) refl
-pair_bits Or p q k usual = in_lanes p q k (lane_bits 1 1 0) (gate_pair Or) refl
-pair_bits Nor p q k usual = in_lanes p q k (lane_bits 1 0 0) (gate_pair Nor) refl
-pair_bits Xor p q k usual = in_lanes p q k (lane_bits 0 0 1) (gate_pair Xor) refl
-pair_bits Xnor p q k usual = in_lanes p q k (lane_bits 0 1 1) (gate_pair Xnor) refl
-pair_bits Not p q k usual = cc
-pair_bits Buf p q k usual = cc
-pair_bits Tri p q k usual = cc
-pair_bits Bus p q k usual = cc
+pair_bits kind p q k usual =
+    in_lanes p q k (lane_bits (bit_of (turns_operands kind)) (bit_of (turns_answer kind)) (bit_of (is_parity kind))) (gate_pair kind)
+    (rw usual at (at_kind (λ kind. if is_usual kind then agrees kind else true) kind refl))
 
 -- the words that the formula makes, by the bits of the masks
 module _ {k m n r : ℕ} (low : k < LANES) (p q : Planes) (operands answer parity : ℕ)

@@ -4,7 +4,7 @@ use Rattle.std.specs.Prelude.{IsTrue}
 use Rattle.std.specs.List.{fold}
 use Rattle.logic_four.specs.declared.V4.{V4}
 use Rattle.logic_four.specs.declared.Kind.{Kind}
-use Rattle.logic_four.specs.declared.Kind.TheVariants.{And, Nand, Or, Nor, Xor, Xnor, Not, Buf, Tri, Bus}
+use Rattle.logic_four.specs.declared.Kind.TheVariants.{Not, Buf, Tri}
 use Rattle.logic_four.specs.Gates.{gate_value}
 use Rattle.logic_four.specs.Kinds.{AllowsOperands}
 use Rattle.logic_four.specs.Folds.{takes_many, base_kind}
@@ -14,30 +14,12 @@ use Rattle.lane_planes.specs.Joins.{first_of, join_of, answer_of, JoinsOneByOne}
 
 -- a gate of one operand
 alone : (kind : Kind) (a : V4) → IsTrue (takes_many kind) → gate_value kind (a ∷ []) ≡ answer_of kind (first_of kind a)
-alone And a many = grind arith
-alone Nand a many = grind arith
-alone Or a many = grind arith
-alone Nor a many = grind arith
-alone Xor a many = grind arith
-alone Xnor a many = grind arith
-alone Not a many = cc
-alone Buf a many = cc
-alone Tri a many = cc
-alone Bus a many = grind arith
+alone kind a many = grind arith
 
 -- two operands joined are the first one and one more
 two : (kind : Kind) (a b : V4) → IsTrue (takes_many kind)
     → first_of kind (gate_value (base_kind kind) (a ∷ b ∷ [])) ≡ join_of kind (first_of kind a) b
-two And a b many = grind arith
-two Nand a b many = grind arith
-two Or a b many = grind arith
-two Nor a b many = grind arith
-two Xor a b many = grind arith
-two Xnor a b many = grind arith
-two Not a b many = cc
-two Buf a b many = cc
-two Tri a b many = cc
-two Bus a b many = grind arith
+two kind a b many = grind arith
 
 many_joined : (kind : Kind) (a : V4) (rest : List V4) → IsTrue (takes_many kind)
     → gate_value kind (a ∷ rest) ≡ answer_of kind (fold (join_of kind) (first_of kind a) rest)
@@ -61,16 +43,10 @@ two_joined a (b ∷ []) few = refl
 two_joined a (b ∷ c ∷ rest) few = absurd (omega (arith, few))
 
 pub one_by_one : JoinsOneByOne
-one_by_one And a rest allowed = many_joined And a rest refl
-one_by_one Nand a rest allowed = many_joined Nand a rest refl
-one_by_one Or a rest allowed = many_joined Or a rest refl
-one_by_one Nor a rest allowed = many_joined Nor a rest refl
-one_by_one Xor a rest allowed = many_joined Xor a rest refl
-one_by_one Xnor a rest allowed = many_joined Xnor a rest refl
 one_by_one Not a rest allowed = one_joined Not a rest (eqb-true (length rest + 1) 1 allowed) refl
 one_by_one Buf a rest allowed = one_joined Buf a rest (eqb-true (length rest + 1) 1 allowed) refl
 one_by_one Tri a rest allowed = two_joined a rest (eqb-true (length rest + 1) 2 allowed)
-one_by_one Bus a rest allowed = many_joined Bus a rest refl
+one_by_one kind a rest allowed = many_joined kind a rest refl
 
 -- so many of four operands
 pub four_joined : (kind : Kind) (n : ℕ) (a b c d : V4) → n ≤ 4 → AllowsOperands kind n

@@ -13,7 +13,7 @@ use Rattle.net_defs.specs.declared.netlist.Netlist.{Netlist}
 use Rattle.net_defs.specs.declared.netlist.Signal.{Signal}
 use Rattle.net_defs.specs.declared.netlist.Block.{Block}
 use Rattle.net_defs.specs.declared.netlist.Driver.{Driver}
-use Rattle.net_defs.specs.declared.netlist.Driver.TheVariants.{Input, Gate, Dff, BlockBit}
+use Rattle.net_defs.specs.declared.netlist.Driver.TheVariants.{BlockBit}
 use Rattle.net_defs.specs.Time.{value_at}
 use Rattle.net_defs.specs.Valid.{IsValid, IsSignal, IsDrivable}
 use Rattle.net_defs.specs.Steps.{State, values_of, act_of, words_of, output_bit}
@@ -104,9 +104,6 @@ module _ (net : Netlist) (valid : IsValid net) (old : State) (values : List V4) 
         puts.outside p (other_place p none) ∙ (so_far.each p ∙ ap (λ b. if b then output_value net old p else value_at values p) (sym same))
 
     by_driver : (p : ℕ) (signal : Signal) → slice_get net.signals p ≡ Some signal → (driver : Driver) → signal.driver ≡ driver → value_at new p ≡ (if is_answered net (m + 1) p then output_value net old p else value_at values p)
-    by_driver p signal at Input driver = kept p (rw (at, driver) refl) (λ bit other other_at odd. let same = sym at ∙ other_at in cc)
-    by_driver p signal at (Gate kind ops) driver = kept p (rw (at, driver) refl) (λ bit other other_at odd. let same = sym at ∙ other_at in cc)
-    by_driver p signal at (Dff op) driver = kept p (rw (at, driver) refl) (λ bit other other_at odd. let same = sym at ∙ other_at in cc)
     by_driver p signal at (BlockBit memory_number bit) driver = elim (eqb_tells memory_number m) [
       | inl h ↦
           let drives : IsDrivable net p (BlockBit memory_number bit) = subst (IsDrivable net p) driver (valid.drivers p signal at) in
@@ -124,6 +121,7 @@ module _ (net : Netlist) (valid : IsValid net) (old : State) (values : List V4) 
     ] where
       lt_more : (a b : ℕ) → a ≢ b → nat_lt a (b + 1) ≡ nat_lt a b
       lt_more a b other = grind (arith, nat_tests)
+    by_driver p signal at _ driver = kept p (rw (at, driver) refl) (λ bit other other_at odd. let same = sym at ∙ other_at in cc)
 
     by_signal : (p : ℕ) (found : Option Signal) → slice_get net.signals p ≡ found → value_at new p ≡ (if is_answered net (m + 1) p then output_value net old p else value_at values p)
     by_signal p None at = kept p (rw at refl) (λ bit other other_at odd. let same = sym at ∙ other_at in cc)
@@ -136,10 +134,7 @@ answers_none net old values = record {
   each = λ p. ap (λ b. if b then output_value net old p else value_at values p) (sym (none p (slice_get net.signals p) refl));
 } where
   by_driver : (driver : Driver) → is_driven_below 0 driver ≡ false
-  by_driver Input = refl
-  by_driver (Gate kind ops) = refl
-  by_driver (Dff op) = refl
-  by_driver (BlockBit memory bit) = grind (arith, nat_tests)
+  by_driver driver = grind (arith, nat_tests)
 
   none : (p : ℕ) (found : Option Signal) → slice_get net.signals p ≡ found → is_answered net 0 p ≡ false
   none p None at = rw at refl

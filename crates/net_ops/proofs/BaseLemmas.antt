@@ -87,10 +87,7 @@ module _ (net : Netlist) (timing : Timing) (inputs old here : List V4) (words : 
   last_turn = record { row = last_row net old; words = words }
 
   pub gives_start : (s : ℕ) (driver : Driver) → is_gate_driver driver ≡ false → given_value timing phase.Start inputs here s (giver_of (length net.signals) driver) ≡ driven_by net timing phase.Start inputs last_turn last_turn s driver
-  gives_start s Input none = refl
-  gives_start s (Gate kind ops) none = cc
-  gives_start s (Dff op) none = refl
-  gives_start s (BlockBit memory bit) none = refl
+  gives_start s driver none = grind arith
 
   pub gives_edge : (s : ℕ) (driver : Driver) → IsDrivable net s driver → is_gate_driver driver ≡ false
       → ((memory bit : ℕ) → driver ≡ BlockBit memory bit → value_at here s ≡ driven_by net timing phase.Edge inputs last_turn last_turn s (BlockBit memory bit))

@@ -7,7 +7,6 @@ use Rattle.std.proofs.lemmas.List.Sums.{fold_push, fold_more}
 use Rattle.logic_four.specs.declared.V4.{V4}
 use Rattle.logic_four.specs.declared.V4.TheVariants.{Undef}
 use Rattle.logic_four.specs.declared.Kind.{Kind}
-use Rattle.logic_four.specs.declared.Kind.TheVariants.{And, Nand, Or, Nor, Xor, Xnor, Not, Buf, Tri, Bus}
 use Rattle.logic_four.specs.Gates.{gate_value}
 use Rattle.logic_four.specs.Kinds.{AllowsOperands}
 use Rattle.logic_four.specs.Folds.{takes_many, base_kind, lone_kind}
@@ -34,41 +33,14 @@ join_more : (kind : Kind) (f : ℕ → V4) (operands : List ℕ) (k : ℕ) → I
 join_more kind f operands k many within = sym (ap (gate_value kind) (map_more f operands k 0 within) ∙ front kind (map f (take k operands)) (f (get_or operands k 0) ∷ []) many)
 
 base_many : (kind : Kind) → IsTrue (takes_many kind) → IsTrue (takes_many (base_kind kind))
-base_many And many = refl
-base_many Nand many = refl
-base_many Or many = refl
-base_many Nor many = refl
-base_many Xor many = refl
-base_many Xnor many = refl
-base_many Not many = cc
-base_many Buf many = cc
-base_many Tri many = cc
-base_many Bus many = refl
+base_many kind many = grind arith
 
 base_twice : (kind : Kind) → base_kind (base_kind kind) ≡ base_kind kind
-base_twice And = refl
-base_twice Nand = refl
-base_twice Or = refl
-base_twice Nor = refl
-base_twice Xor = refl
-base_twice Xnor = refl
-base_twice Not = refl
-base_twice Buf = refl
-base_twice Tri = refl
-base_twice Bus = refl
+base_twice kind = grind arith
 
 -- a gate of one operand reads it twice
 pub lone : (kind : Kind) (a : V4) → AllowsOperands kind 1 → gate_value (lone_kind kind) (a ∷ a ∷ []) ≡ gate_value kind (a ∷ [])
-lone Tri a allowed = cc
-lone And a allowed = grind arith
-lone Nand a allowed = grind arith
-lone Or a allowed = grind arith
-lone Nor a allowed = grind arith
-lone Xor a allowed = grind arith
-lone Xnor a allowed = grind arith
-lone Not a allowed = refl
-lone Buf a allowed = refl
-lone Bus a allowed = grind arith
+lone kind a allowed = grind arith
 
 -- an operation done in a lane
 pub op_done : {W F : Type 0} (lane : W → ℕ → V4) (answer : F → V4 → V4 → V4) (stuck : ℕ → Option V4) (l : ℕ) (op : PairOp F) (row : List W) (a b made put : W)

@@ -7,7 +7,7 @@ use Rattle.std.proofs.lemmas.List.Quantifiers.{all_pairs_push}
 use Rattle.net_defs.specs.declared.netlist.Netlist.{Netlist}
 use Rattle.net_defs.specs.declared.netlist.Signal.{Signal}
 use Rattle.net_defs.specs.declared.netlist.Driver.{Driver}
-use Rattle.net_defs.specs.declared.netlist.Driver.TheVariants.{Input, Gate, Dff, BlockBit}
+use Rattle.net_defs.specs.declared.netlist.Driver.TheVariants.{Dff}
 use Rattle.net_defs.specs.declared.timing.Timing.{Timing}
 use Rattle.net_defs.specs.Loops.{IsGate, waits_for, IsOrder, is_gate}
 use Rattle.net_defs.specs.Valid.{IsValid, IsDrivable}
@@ -63,10 +63,8 @@ sources_more net n list new giver so_far is grown = subst (AreSources net (n + 1
 
 -- a register takes from the places of the last turn
 taken_from : (net : Netlist) (s : ℕ) (driver : Driver) → IsDrivable net s driver → IsTakenFrom (length net.signals) (giver_of (length net.signals) driver)
-taken_from net s Input drives = tt
-taken_from net s (Gate kind ops) drives = tt
 taken_from net s (Dff op) drives = (omega arith, omega (arith, drives))
-taken_from net s (BlockBit memory bit) drives = tt
+taken_from net s _ drives = tt
 
 -- what gives the next signal its value
 pub is_source : (net : Netlist) (valid : IsValid net) (s : ℕ) (found : Signal) (giver : Giver) → slice_get net.signals s ≡ Some found → is_gate net s ≡ false → giver ≡ giver_of (length net.signals) found.driver

@@ -12,7 +12,7 @@ use Rattle.logic_four.specs.Gates.{gate_value}
 use Rattle.net_defs.specs.declared.netlist.Netlist.{Netlist}
 use Rattle.net_defs.specs.declared.netlist.Signal.{Signal}
 use Rattle.net_defs.specs.declared.netlist.Driver.{Driver}
-use Rattle.net_defs.specs.declared.netlist.Driver.TheVariants.{Input, Gate, Dff, BlockBit}
+use Rattle.net_defs.specs.declared.netlist.Driver.TheVariants.{Gate}
 use Rattle.net_defs.specs.declared.timing.Timing.{Timing}
 use Rattle.net_defs.specs.Time.{value_at}
 use Rattle.net_defs.specs.Steps.{is_late}
@@ -78,12 +78,10 @@ module _ {F : Type 0} (answer : F → V4 → V4 → V4) (is_form : F → Type 0)
     here_same : (s : ℕ) → is_gate net s ≡ true → ((o : ℕ) → Contains (waits_for net timing s) o → o ≢ g) → here_value net timing s before ≡ here_value net timing s after
     here_same s gate apart = by_signal (slice_get net.signals s) refl where
       by_driver : (signal : Signal) → slice_get net.signals s ≡ Some signal → (driver : Driver) → signal.driver ≡ driver → is_gate_driver driver ≡ true → here_driven net timing s before driver ≡ here_driven net timing s after driver
-      by_driver signal is Input driver ops = cc
-      by_driver signal is (BlockBit memory bit) driver ops = cc
-      by_driver signal is (Dff op) driver ops = cc
       by_driver signal is (Gate kind ops) driver has =
           ap (gate_value kind) (map_same (λ o. value_at before (operand_place net timing s o)) (λ o. value_at after (operand_place net timing s o)) ops (λ o held.
           operand_same s o (operand_low net valid s signal kind ops is driver o held) (λ early. apart o (rw (waits_here net timing s signal kind ops is driver early) held))))
+      by_driver signal is _ driver none = cc
 
       by_signal : (found : Option Signal) → slice_get net.signals s ≡ found → here_value net timing s before ≡ here_value net timing s after
       by_signal None is = let none : is_gate net s ≡ false = rw is refl in absurd (cc)

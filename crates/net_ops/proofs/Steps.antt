@@ -24,15 +24,10 @@ use Rattle.net_ops.proofs.OpLemmas.{forced_twice}
 -- a choice by the phase is the choice by the turn
 module _ (timing : Timing) (turn : ℕ) where
   by_turn : (first edge : Bool) (initial new kept : V4) → by_phase (if first then phase.Start else if edge then phase.Edge else phase.Within) initial new kept ≡ (if first then initial else if edge then new else kept)
-  by_turn true edge initial new kept = refl
-  by_turn false true initial new kept = refl
-  by_turn false false initial new kept = refl
+  by_turn first edge initial new kept = grind arith
 
   words_by_turn : (first edge : Bool) (new kept : List (List V4)) → (first ≡ true → edge ≡ false) → words_by_phase (if first then phase.Start else if edge then phase.Edge else phase.Within) new kept ≡ (if edge then new else kept)
-  words_by_turn true true new kept apart = let never = apart refl in cc
-  words_by_turn true false new kept apart = refl
-  words_by_turn false true new kept apart = refl
-  words_by_turn false false new kept apart = refl
+  words_by_turn first edge new kept apart = grind arith
 
   -- turn 1 is no edge
   start_no_edge : (turn == 1) ≡ true → is_edge timing.units turn ≡ false
@@ -62,10 +57,7 @@ step_held net timing stuck at inputs old new steps = record {
   stuck_held = λ s signal is. steps.values s signal is ∙ (sym (forced_twice (stuck s) (λ v. v) (driven_by net timing at inputs old new s signal.driver)) ∙ ap (forced (stuck s)) (sym (steps.values s signal is)));
 } where
   by_driver : (s : ℕ) (driver : Driver) → IsTrue (is_input driver) → driven_by net timing at inputs old new s driver ≡ value_at inputs s
-  by_driver s Input input = refl
-  by_driver s (Gate kind ops) input = cc
-  by_driver s (Dff op) input = cc
-  by_driver s (BlockBit memory bit) input = cc
+  by_driver s driver input = grind arith
 
 -- a turn within a cycle is not the first of it
 pub within_later : (is_first : Bool) (place : ℕ) (at : Phase) → at ≡ phase_at is_first place → at ≡ phase.Within → 0 < place
@@ -74,8 +66,7 @@ within_later is_first place at is within = elim (eqb_tells place 0) [
   | inr some ↦ (let other = some.1 in omega arith)
 ] where
   first : (b : Bool) → (if b then phase.Start else phase.Edge) ≡ phase.Within → ⊥
-  first true same = cc
-  first false same = cc
+  first b same = grind arith
 
 module _ (units cycle place : ℕ) (inside : place < units) where
   within_cycle : (cycle * units + place + 1 - 1) % units ≡ place

@@ -70,10 +70,7 @@ module _ (net : Netlist) (timing : Timing) (stuck : ℕ → Option V4) (at : Pha
     -- what a source is driven by doesn't ask for the new row
     same_driven : (driver : Driver) → is_gate_driver driver ≡ false
         → driven_by net timing at inputs (record { row = last_row net begun; words = words }) (record { row = last_row net begun; words = words }) s driver ≡ driven_by net timing at inputs old new s driver
-    same_driven Input none = refl
-    same_driven (Gate kind ops) none = cc
-    same_driven (Dff op) none = ap (λ row. driven_by net timing at inputs (record { row = row; words = words }) new s (Dff op)) keeps.last
-    same_driven (BlockBit memory bit) none = ap (λ row. driven_by net timing at inputs (record { row = row; words = words }) new s (BlockBit memory bit)) keeps.last
+    same_driven driver none = grind (arith, keeps.last)
 
     -- in a turn within a cycle what is held stays
     stays : at ≡ phase.Within → (driver : Driver) → signal.driver ≡ driver → is_gate_driver driver ≡ false → value_at (row_of net before) s ≡ forced (stuck s) (driven_by net timing at inputs old new s driver)
@@ -88,9 +85,8 @@ module _ (net : Netlist) (timing : Timing) (stuck : ℕ → Option V4) (at : Pha
       by_given apart = sources.given s signal apart is none ∙ ap (forced (stuck s)) (same_driven signal.driver none)
 
       by_at : (p : Phase) → at ≡ p → value_at given s ≡ forced (stuck s) (driven_by net timing at inputs old new s signal.driver)
-      by_at phase.Start is_at = by_given (λ within. let both = sym is_at ∙ within in cc)
-      by_at phase.Edge is_at = by_given (λ within. let both = sym is_at ∙ within in cc)
       by_at phase.Within is_at = ap (λ row. value_at row s) (sources.within is_at) ∙ (begun_value s low ∙ stays is_at signal.driver refl none)
+      by_at _ is_at = by_given (λ within. let both = sym is_at ∙ within in cc)
 
     -- an operand of a gate
     operand_is : (o : ℕ) → o < length net.signals → value_at done (operand_place net timing s o) ≡ value_at (if is_late net timing s then row_of net before else row_of net done) o
@@ -114,10 +110,8 @@ module _ (net : Netlist) (timing : Timing) (stuck : ℕ → Option V4) (at : Pha
     turn_value : value_at (row_of net done) s ≡ forced (stuck s) (driven_by net timing at inputs old new s signal.driver)
     turn_value = row_value net done s low ∙ by_driver signal.driver refl where
       by_driver : (driver : Driver) → signal.driver ≡ driver → value_at done s ≡ forced (stuck s) (driven_by net timing at inputs old new s signal.driver)
-      by_driver Input driver = source_value (rw driver refl)
       by_driver (Gate kind ops) driver = rw driver (gate_result kind ops driver)
-      by_driver (Dff op) driver = source_value (rw driver refl)
-      by_driver (BlockBit m bit) driver = source_value (rw driver refl)
+      by_driver _ driver = source_value (rw driver refl)
 
   pub turn_words : WordsBy net at (record { row = row_of net before; words = words }) memories
   turn_words = subst (λ row. WordsBy net at (record { row = row; words = words }) memories) keeps.last by_words
@@ -137,6 +131,5 @@ still_shaped net at old words shaped by_words = record {
   shape = λ m memory is. rw (by_words.each m memory is) (by_at at m memory (shaped.shape m memory is));
 } where
   by_at : (p : Phase) (m : ℕ) (memory : Block) → HasShape (length memory.address) (length memory.word) (words_of old m) → HasShape (length memory.address) (length memory.word) (words_by_phase p ((act_of old memory (words_of old m)).words) (words_of old m))
-  by_at phase.Start m memory was = was
-  by_at phase.Within m memory was = was
   by_at phase.Edge m memory was = shape (length memory.address) (length memory.word) (words_of old m) (value_at old.row memory.we) (values_of old.row memory.address) (values_of old.row memory.word) was (length-map memory.word (value_at old.row))
+  by_at _ m memory was = was

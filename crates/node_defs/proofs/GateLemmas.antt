@@ -2,13 +2,13 @@
 use Rattle.std.proofs.Common.{◌≡◌, ◌∙◌, ◌⊎◌, inl, inr, ℕ, ◌+◌, ◌-◌, ◌<◌, ◌≤◌, nat_lt, Bool, true, false, if◌then◌else◌, IsTrue, List, length, map, get_or, refl, sym, ap, arith}
 use Rattle.std.specs.Prelude.{Option, Some, None, slice_get, All}
 use Rattle.std.specs.List.{range_with_len}
-use Rattle.std.proofs.lemmas.Bool.{cases_lt, lt-ltb, le-ltb, eqb-true}
+use Rattle.std.proofs.lemmas.Bool.{cases_lt, lt-ltb, le-ltb}
+use Rattle.std.proofs.lemmas.Bool.Decides.{nat_tests}
 use Rattle.std.proofs.lemmas.List.{same_lists, length-map, get_or-map}
 use Rattle.std.proofs.lemmas.List.Elements.{All-get_or}
 use Rattle.std.proofs.lemmas.List.FromFn.{length-map-range_with_len, get_or-map-range_with_len}
 use Rattle.logic_four.specs.declared.V4.{V4}
 use Rattle.logic_four.specs.declared.Kind.{Kind}
-use Rattle.logic_four.specs.declared.Kind.TheVariants.{And, Nand, Or, Nor, Xor, Xnor, Not, Buf, Tri, Bus}
 use Rattle.logic_four.specs.Gates.{gate_value}
 use Rattle.logic_four.specs.Kinds.{AllowsOperands}
 use Rattle.logic_four.specs.Folds.{takes_many, base_kind}
@@ -34,16 +34,7 @@ use Rattle.node_defs.proofs.SeenLemmas.{item_named, item_of_signal, number, numb
 
 -- a kind that takes no more than four operands, or any number
 many_or_few : (kind : Kind) (n : ℕ) → AllowsOperands kind n → IsTrue (takes_many kind) ⊎ (n ≤ 4)
-many_or_few And n allowed = inl refl
-many_or_few Nand n allowed = inl refl
-many_or_few Or n allowed = inl refl
-many_or_few Nor n allowed = inl refl
-many_or_few Xor n allowed = inl refl
-many_or_few Xnor n allowed = inl refl
-many_or_few Not n allowed = inr (let one : n ≡ 1 = eqb-true n 1 allowed in omega (arith, one))
-many_or_few Buf n allowed = inr (let one : n ≡ 1 = eqb-true n 1 allowed in omega (arith, one))
-many_or_few Tri n allowed = inr (let two : n ≡ 2 = eqb-true n 2 allowed in omega (arith, two))
-many_or_few Bus n allowed = inl refl
+many_or_few kind n allowed = grind (arith, nat_tests)
 
 module _ (net : Netlist) (timing : Timing) (nodes : NodeNet) (are : AreItems net timing nodes) (stimulus : Stimulus) (turn : ℕ) (old new : State)
     (step : IsItemStep nodes timing stimulus turn old new)

@@ -71,11 +71,7 @@ module _ (names : List ItemName) (tables : List Table) (old new : State) (late :
         at : (i : ℕ) → i < group.size → group.size ≤ 4 → get_or (feed_values node.feeds) i Undef ≡ value (group.first + i)
         at i within few = place i within (omega (arith, within, few)) ∙ (ap (feed_value old new) (node.used i within).2 ∙ feed_is (group.first + i) (node.used i within).0 (node.used i within).1) where
           place : (k : ℕ) → k < group.size → k < 4 → get_or (feed_values node.feeds) k Undef ≡ feed_value old new (feed_at node.feeds k)
-          place zero in_group low = refl
-          place (suc zero) in_group low = refl
-          place (suc (suc zero)) in_group low = refl
-          place (suc (suc (suc zero))) in_group low = refl
-          place (suc (suc (suc (suc k)))) in_group low = absurd (omega (arith, low))
+          place k in_group low = grind arith
 
   -- a node answers what its kind answers over its group
   pub node_is : (kind : Kind) (group : Group) (item : Item) → (node : IsNode names tables late s ops kind group item)

@@ -18,7 +18,7 @@ use Rattle.node_defs.specs.declared.items.Tag.TheVariants.{This, Last}
 use Rattle.node_defs.specs.declared.items.Feed.{Feed}
 use Rattle.node_defs.specs.declared.items.Feed.TheVariants.{From, Fixed}
 use Rattle.node_defs.specs.declared.items.Item.{Item}
-use Rattle.node_defs.specs.declared.items.Item.TheVariants.{Input, BlockBit, Node, Latch}
+use Rattle.node_defs.specs.declared.items.Item.TheVariants.{Node}
 use Rattle.node_defs.specs.declared.items.NodeBlock.{NodeBlock}
 use Rattle.node_defs.specs.declared.items.NodeNet.{NodeNet}
 use Rattle.node_defs.specs.Items.{feed_at}
@@ -38,13 +38,11 @@ module _ (net : Netlist) (timing : Timing) (nodes : NodeNet) (are : AreItems net
     -- an item's value rests on those of the items before it alone
     value_same : (one other : State) (x : ℕ) (item : Item) → slice_get nodes.items x ≡ Some item → ((y : ℕ) → y < x → value_at one.row y ≡ value_at other.row y)
         → item_value nodes timing stimulus turn old one x item ≡ item_value nodes timing stimulus turn old other x item
-    value_same one other x (Input column) at agree = refl
-    value_same one other x (BlockBit block bit) at agree = refl
-    value_same one other x (Latch op) at agree = refl
     value_same one other x (Node table feeds) at agree =
         let same : (i : ℕ) → feed_value old one (feed_at feeds i) ≡ feed_value old other (feed_at feeds i) =
         λ i. feed_same one other x (feed_at feeds i) (λ y from. earlier net timing nodes are x table feeds i y at from) agree in
         rw (same 0) (rw (same 1) (rw (same 2) (rw (same 3) refl)))
+    value_same one other x _ at agree = refl
 
     -- the value of item number n, after so many values
     value_next : List V4 → ℕ → V4

@@ -2,6 +2,7 @@
 use Rattle.std.proofs.Common.{◌≡◌, ◌∙◌, ◌⊎◌, inl, inr, ℕ, zero, suc, ◌+◌, ◌<◌, ◌≤◌, nat_lt, Bool, if◌then◌else◌, List, [], ◌∷◌, length, get_or, refl, sym, ap, subst, arith}
 use Rattle.std.specs.Prelude.{◌↔◌, Option, Some, None, slice_get}
 use Rattle.std.proofs.lemmas.Bool.{cases_lt, cases_order, lt-ltb, le-ltb}
+use Rattle.std.proofs.lemmas.Bool.Decides.{nat_tests}
 use Rattle.std.proofs.lemmas.Option.{slice_get-get_or, slice_get_within, get_or_from_slice_get, none-some}
 use Rattle.std.proofs.lemmas.List.{same_lists, get_or_default}
 use Rattle.list_laws.proofs.Members.{member_at}
@@ -58,21 +59,10 @@ three_same we we2 address address2 word word2 p q r = rw p (rw q (rw r refl))
 
 -- nothing comes both before and after another
 helper_apart : (one other : Option ℕ) → HelperBefore one other → HelperBefore other one → ⊥
-helper_apart None other before after = before
-helper_apart (Some h) None before after = after
-helper_apart (Some h) (Some i) before after = omega (arith, before, after)
+helper_apart one other before after = grind arith
 
 apart : (a b : Key) → Before a b → Before b a → ⊥
-apart a b (inl x) (inl y) = omega (arith, x, y)
-apart a b (inl x) (inr (c, y)) = omega (arith, x, c)
-apart a b (inr (c, x)) (inl y) = omega (arith, c, y)
-apart a b (inr (c, inl x)) (inr (e, inl y)) = omega (arith, x, y)
-apart a b (inr (c, inl x)) (inr (e, inr (r, y))) = omega (arith, x, r)
-apart a b (inr (c, inr (r, x))) (inr (e, inl y)) = omega (arith, r, y)
-apart a b (inr (c, inr (r, inl x))) (inr (e, inr (q, inl y))) = omega (arith, x, y)
-apart a b (inr (c, inr (r, inl x))) (inr (e, inr (q, inr (s, y)))) = omega (arith, x, s)
-apart a b (inr (c, inr (r, inr (s, x)))) (inr (e, inr (q, inl y))) = omega (arith, s, y)
-apart a b (inr (c, inr (r, inr (s, x)))) (inr (e, inr (q, inr (t, y)))) = helper_apart a.helper b.helper x y
+apart a b before after = grind (arith, helper_apart a.helper b.helper)
 
 -- the class of what this driver gives
 class_of_driver : Driver → ℕ
@@ -84,20 +74,12 @@ class_of_driver (driver.BlockBit block bit) = 1
 class_by_driver : (names : List ItemName) (tables : List Table) (late : Bool) (s : ℕ) (d : Driver) (helper : Option ℕ) (item : Item)
     → IsItemOf names tables late s d helper item → class_of item ≡ class_of_driver d
 unfolding class_of_driver
-class_by_driver names tables late s driver.Input helper item is = ap class_of is.1
-class_by_driver names tables late s (driver.Dff op) helper item is = ap class_of is.3
-class_by_driver names tables late s (driver.BlockBit block bit) helper item is = ap class_of is.1
-class_by_driver names tables late s (driver.Gate kind ops) None item is = ap class_of is.is
-class_by_driver names tables late s (driver.Gate kind ops) (Some h) item is = ap class_of is.1.is
+class_by_driver names tables late s d helper item is = grind arith
 
 -- an item that is named is named for a signal, or a helper, that is there
 module _ (net : Netlist) (timing : Timing) where
   among : (names : List ItemName) (tables : List Table) (late : Bool) (s : ℕ) (d : Driver) (helper : Option ℕ) (item : Item) → IsItemOf names tables late s d helper item → IsAmong (helpers_of d) helper
-  among names tables late s driver.Input helper item is = rw is.0 tt
-  among names tables late s (driver.Dff op) helper item is = rw is.0 tt
-  among names tables late s (driver.BlockBit block bit) helper item is = rw is.0 tt
-  among names tables late s (driver.Gate kind ops) None item is = tt
-  among names tables late s (driver.Gate kind ops) (Some h) item is = is.0
+  among names tables late s d helper item is = grind arith
 
   -- what a name says, by the driver of its signal
   record Said (nodes : NodeNet) (name : ItemName) (item : Item) : Type 0 where
@@ -146,25 +128,11 @@ module _ (net : Netlist) (timing : Timing) where
 
     -- an item is a node or latch in both lists, or in none
     node_same : (u v : ℕ) (name : ItemName) → IsNamed one.names u name → IsNamed other.names v name → nat_lt u one.first_node ≡ nat_lt v other.first_node
-    node_same u v name one_named other_named = by_place (cases_lt u one.first_node) (cases_lt v other.first_node) where
-      i : (item : Item) × (slice_get one.items u ≡ Some item) × IsItem net timing one.names one.tables name item
-      i = item_named net timing one first u name one_named
-
-      j : (item : Item) × (slice_get other.items v ≡ Some item) × IsItem net timing other.names other.tables name item
-      j = item_named net timing other second v name other_named
-
-      class : class_of i.0 ≡ class_of j.0
-      class = class_same name i.0 j.0 i.2 j.2
-
-      by_place : (u < one.first_node) ⊎ (one.first_node ≤ u) → (v < other.first_node) ⊎ (other.first_node ≤ v) → nat_lt u one.first_node ≡ nat_lt v other.first_node
-      by_place (inl low) (inl low_too) = lt-ltb u one.first_node low ∙ sym (lt-ltb v other.first_node low_too)
-      by_place (inr high) (inr high_too) = le-ltb u one.first_node high ∙ sym (le-ltb v other.first_node high_too)
-      by_place (inl low) (inr high) =
-          let node : one.first_node ≤ u = (first.first_node u i.0 i.1).0 (class ∙ (second.first_node v j.0 j.1).1 high) in
-          absurd (omega (arith, low, node))
-      by_place (inr high) (inl low) =
-          let node : other.first_node ≤ v = (second.first_node v j.0 j.1).0 (sym class ∙ (first.first_node u i.0 i.1).1 high) in
-          absurd (omega (arith, low, node))
+    node_same u v name one_named other_named =
+        let i = item_named net timing one first u name one_named in
+        let j = item_named net timing other second v name other_named in
+        let class = class_same name i.0 j.0 i.2 j.2 in
+        grind (arith, nat_tests, first.first_node u i.0 i.1, second.first_node v j.0 j.1)
 
     -- what the operands of a node ask for is the same, where the ranks of what stands before it are
     past_same : (x : ℕ) (f g : Feed) → SameOperands f g → ((u : ℕ) → f ≡ From u This → u < x)
@@ -253,6 +221,9 @@ module _ (net : Netlist) (timing : Timing) where
         driver_same (is_late net timing name.signal) name.signal a.signal.driver name.helper i j a.is
         (subst (λ s. IsItemOf other.names other.tables (is_late net timing name.signal) name.signal s.driver name.helper j) same b.is)
 
+    plain_rank : (i j : Item) → SamePlain i j → rank_of one.first_node first.ranks i ≡ rank_of other.first_node second.ranks j
+    plain_rank i j plain = grind (arith, plain.same, plain.plain)
+
     -- items of one name have one rank
     rank_to : (n x y : ℕ) (name : ItemName) → x < n → IsNamed one.names x name → IsNamed other.names y name → get_or first.ranks x 0 ≡ get_or second.ranks y 0
     rank_to zero x y name within one_named other_named = absurd (omega (arith, within))
@@ -272,12 +243,7 @@ module _ (net : Netlist) (timing : Timing) where
               ∙ sym (ap (rank_of other.first_node second.ranks) nodes.other_is))
           by_same (inr (inl latches)) held =
               ap (rank_of one.first_node first.ranks) latches.one_is ∙ sym (ap (rank_of other.first_node second.ranks) latches.other_is)
-          by_same (inr (inr plain)) held = of_plain plain.plain where
-            of_plain : ((column : ℕ) × (i.0 ≡ Input column)) ⊎ ((block bit : ℕ) × (i.0 ≡ BlockBit block bit)) → rank_of one.first_node first.ranks i.0 ≡ rank_of other.first_node second.ranks j.0
-            of_plain (inl (column, is)) =
-                ap (rank_of one.first_node first.ranks) is ∙ sym (ap (rank_of other.first_node second.ranks) (sym plain.same ∙ is))
-            of_plain (inr (block, bit, is)) =
-                ap (rank_of one.first_node first.ranks) is ∙ sym (ap (rank_of other.first_node second.ranks) (sym plain.same ∙ is))
+          by_same (inr (inr plain)) held = plain_rank i.0 j.0 plain
 
     -- names stand in one order in both lists
     rising : (x z y w : ℕ) (low high : ItemName) → IsNamed one.names x low → IsNamed one.names z high → IsNamed other.names y low → IsNamed other.names w high → x < z → y < w
@@ -385,10 +351,7 @@ module _ (net : Netlist) (timing : Timing) (one other : NodeNet) (first : AreIte
     by_same (inl nodes) = of_nodes nodes.t nodes.u nodes.feeds nodes.others nodes.one_is nodes.other_is (feeds_same nodes.feeds nodes.others nodes.operands) nodes.tables
     by_same (inr (inl latches)) =
         rw latches.one_is (rw latches.other_is (ap Latch (one_place latches.x latches.y latches.name latches.one_named latches.other_named)))
-    by_same (inr (inr plain)) = of_plain plain.plain where
-      of_plain : ((column : ℕ) × (i ≡ Input column)) ⊎ ((block bit : ℕ) × (i ≡ BlockBit block bit)) → AreSameItem one.tables other.tables i j
-      of_plain (inl (column, is)) = rw is (sym is ∙ plain.same)
-      of_plain (inr (block, bit, is)) = rw is (sym is ∙ plain.same)
+    by_same (inr (inr plain)) = grind (arith, plain.same, plain.plain)
 
   -- different tables of one list differ in an entry
   one_number : (tables : List Table) (t u : ℕ) → AreDifferent tables → t < length tables → u < length tables → IsSameTable tables tables t u → t ≡ u

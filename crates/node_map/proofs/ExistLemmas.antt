@@ -26,6 +26,7 @@ use Rattle.func_table.specs.Shelf.{AreDifferent}
 use Rattle.list_laws.proofs.Members.{each, member_at, map_at, mapped_at}
 use Rattle.list_laws.proofs.Places.{one_there}
 use Rattle.list_laws.proofs.Ranges.{last_or}
+use Rattle.logic_four.proofs.lemmas.KindLemmas.{few_operands}
 use Rattle.node_defs.specs.declared.groups.Group.{Group}
 use Rattle.node_defs.specs.declared.items.Feed.{Feed}
 use Rattle.node_defs.specs.declared.items.Feed.TheVariants.{From, Fixed}
@@ -45,11 +46,10 @@ use Rattle.node_map.specs.code.Places.{start_of, keys_to, key_cmp, name_of, flat
 use Rattle.node_map.specs.code.Tables.{Keeps}
 use Rattle.node_map.specs.code.Nodes.{IsFeed, AreFeeds, IsNodeAt, node_kind}
 use Rattle.node_map.specs.code.Made.{driver_at, IsMadeItem, AreMade, AreNodeBlocks}
-use Rattle.node_map.proofs.lemmas.ShapeLemmas.{IsShaped, shaped, some_groups}
 use Rattle.node_map.proofs.RankLemmas.{OwnTo, own_begun, own_more, own_all}
 use Rattle.node_map.proofs.OrderLemmas.{key_total, made_keys, made_right}
 use Rattle.node_map.proofs.NumberLemmas.{NumbersTo, numbers_begun, numbers_more, numbers_all, are_flat, are_numbered, own_found, helper_found}
-use Rattle.node_map.proofs.MadeNodeLemmas.{four_feeds, some_allowed, made_node}
+use Rattle.node_map.proofs.MadeNodeLemmas.{four_feeds, group_shaped, made_node}
 use Rattle.node_map.proofs.ItemLemmas.{MadeTo, made_begun, made_more, made_all, driver_there, made_input, made_bit, made_latch, made_gate}
 use Rattle.node_map.proofs.MadeLemmas.{made_items, classes_rise}
 use Rattle.node_map.proofs.SortLemmas.{sorted_list}
@@ -62,7 +62,7 @@ operands_few : (net : Netlist) → IsValid net → (s : ℕ) → length (operand
 operands_few net valid s = by_signal (slice_get net.signals s) refl where
   by_driver : (drives : Driver) → IsDrivable net s drives → length (gate_operands drives) ≤ 1024
   by_driver driver.Input is = omega arith
-  by_driver (driver.Gate kind ops) is = (some_allowed kind (length ops) is.0).1
+  by_driver (driver.Gate kind ops) is = few_operands kind (length ops) is.0
   by_driver (driver.Dff op) is = omega arith
   by_driver (driver.BlockBit block bit) is = omega arith
 
@@ -189,8 +189,7 @@ module _ (net : Netlist) (numbering : Numbering) (numbered : IsNumbering net num
         → (tables : List Table) × IsNodeStep old kind place tables
     node_there old kind place different allowed among =
         let n : ℕ = length (operands_of net s) in
-        let shape : IsShaped (length (operands_of net s) + place) (group_at (length (operands_of net s)) place) =
-        shaped n place (some_allowed kind n allowed).0 (omega (arith, among, some_groups n)) in
+        let shape = group_shaped kind n place allowed among in
         let shelf : _ = shelved old (node_kind kind n place) (group_at (length (operands_of net s)) place).size different in
         let feeds : _ = feeds_there (group_at (length (operands_of net s)) place) shape.few (omega (arith, shape.ends, among)) in (
           shelf.0,

@@ -1,5 +1,5 @@
 -- What was made from the keys in order are the items of the netlist.
-use Rattle.std.proofs.Common.{◌≡◌, ◌∙◌, inl, inr, ℕ, zero, suc, ◌+◌, ◌-◌, ◌<◌, ◌≤◌, ◌↔◌, nat_lt, max, Bool, true, false, ◌&&◌, if◌then◌else◌, List, [], length, map, get_or, refl, sym, ap, subst, arith}
+use Rattle.std.proofs.Common.{◌≡◌, ◌∙◌, inl, inr, ℕ, ◌+◌, ◌-◌, ◌<◌, ◌≤◌, ◌↔◌, nat_lt, max, Bool, true, false, ◌&&◌, if◌then◌else◌, List, [], length, map, get_or, refl, sym, ap, subst, arith}
 use Rattle.std.specs.Prelude.{Option, Some, None, slice_get}
 use Rattle.std.proofs.lemmas.Bool.{cases_lt, lt-ltb, le-ltb}
 use Rattle.std.proofs.lemmas.Bool.Decides.{eqb_tells}
@@ -59,10 +59,7 @@ helper_place helpers place helper among is = elim (cases_lt place helpers) [
 helpers_are : (net : Netlist) (s : ℕ) (signal : Signal) → slice_get net.signals s ≡ Some signal → helpers_of signal.driver ≡ helpers_at net s
 helpers_are net s signal at = rw at (by_driver signal.driver) where
   by_driver : (drives : Driver) → helpers_of drives ≡ helper_count (length (gate_operands drives))
-  by_driver driver.Input = rw no_groups refl
-  by_driver (driver.Gate kind ops) = refl
-  by_driver (driver.Dff op) = rw no_groups refl
-  by_driver (driver.BlockBit block bit) = rw no_groups refl
+  by_driver drives = grind (arith, no_groups)
 
 -- the order of two places is that of what they stand for
 helper_before : (helpers p q : ℕ) → p < q → q ≤ helpers → HelperBefore (if nat_lt p helpers then Some p else None) (if nat_lt q helpers then Some q else None)
@@ -76,11 +73,7 @@ helper_before helpers p q before among =
 -- ---- classes
 
 class_is_of : (names : List ItemName) (tables : List Table) (late : Bool) (s : ℕ) (drives : Driver) (helper : Option ℕ) (item : Item) → IsItemOf names tables late s drives helper item → class_of item ≡ class_of_driver drives
-class_is_of names tables late s driver.Input helper item is = ap class_of is.1
-class_is_of names tables late s (driver.Gate kind ops) None item is = ap class_of is.is
-class_is_of names tables late s (driver.Gate kind ops) (Some h) item is = ap class_of is.1.is
-class_is_of names tables late s (driver.Dff op) helper item is = ap class_of is.3
-class_is_of names tables late s (driver.BlockBit block bit) helper item is = ap class_of is.1
+class_is_of names tables late s drives helper item is = grind arith
 
 -- the item of a signal by its driver
 item_driven : (net : Netlist) (timing : Timing) (names : List ItemName) (tables : List Table) (name : ItemName) (item : Item) → IsItem net timing names tables name item
@@ -98,12 +91,7 @@ item_driven net timing names tables name item is = by_signal (slice_get net.sign
 -- the greatest of four that are numbers of a group, or 0 past it
 four : (pasts : List ℕ) (first size : ℕ) (at : ℕ → ℕ) → size ≤ 4 → ((i : ℕ) → i < size → at i ≡ get_or pasts (first + i) 0) → ((i : ℕ) → size ≤ i → at i ≡ 0)
     → max (max (at 0) (at 1)) (max (at 2) (at 3)) ≡ most_of pasts first size
-four pasts first zero at few used unused = omega (arith, unused 0 (omega arith), unused 1 (omega arith), unused 2 (omega arith), unused 3 (omega arith))
-four pasts first (suc zero) at few used unused = omega (arith, used 0 (omega arith), unused 1 (omega arith), unused 2 (omega arith), unused 3 (omega arith))
-four pasts first (suc (suc zero)) at few used unused = omega (arith, used 0 (omega arith), used 1 (omega arith), unused 2 (omega arith), unused 3 (omega arith))
-four pasts first (suc (suc (suc zero))) at few used unused = omega (arith, used 0 (omega arith), used 1 (omega arith), used 2 (omega arith), unused 3 (omega arith))
-four pasts first (suc (suc (suc (suc zero)))) at few used unused = omega (arith, used 0 (omega arith), used 1 (omega arith), used 2 (omega arith), used 3 (omega arith))
-four pasts first (suc (suc (suc (suc (suc size))))) at few used unused = absurd (omega (arith, few))
+four pasts first size at few used unused = grind (arith, used 0, used 1, used 2, used 3, unused 0, unused 1, unused 2, unused 3)
 
 module _ (net : Netlist) (timing : Timing) (ranks_own : List ℕ) (keys : List Key) (names : List ItemName) (tables : List Table) (items : List Item) (first_node : ℕ)
     (own_are : AreOwnRanks net timing ranks_own) (keyed : AreKeyed net keys) (right : AreRight net timing ranks_own keys)
@@ -362,10 +350,7 @@ classes_rise net keys keyed x y one other order at_one at_other is = elim (cases
   over most class less = omega (arith, most, class, less, is)
 
   by_driver : (drives : Driver) → class_of_driver drives ≤ 2
-  by_driver driver.Input = omega arith
-  by_driver (driver.Gate kind ops) = omega arith
-  by_driver (driver.Dff op) = omega arith
-  by_driver (driver.BlockBit block bit) = omega arith
+  by_driver drives = grind arith
 
   class_most : (found : Option Signal) → slice_get net.signals other.signal ≡ found → class_at net other.signal ≤ 2
   class_most None at = rw at (omega arith)

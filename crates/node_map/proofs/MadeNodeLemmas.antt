@@ -1,11 +1,12 @@
 -- The nodes of a gate as they are made.
-use Rattle.std.proofs.Common.{◌≡◌, ◌∙◌, inl, inr, ℕ, zero, suc, ◌+◌, ◌-◌, ◌<◌, ◌≤◌, nat_lt, Bool, true, false, if◌then◌else◌, List, length, refl, sym, ap, arith}
-use Rattle.std.proofs.lemmas.Bool.{cases_lt, le-leb, le-ltb, eqb-true}
+use Rattle.std.proofs.Common.{◌≡◌, ◌⊎◌, inl, inr, IsTrue, ℕ, zero, suc, ◌+◌, ◌-◌, ◌<◌, ◌≤◌, nat_lt, Bool, true, false, if◌then◌else◌, List, length, refl, sym, ap, arith}
+use Rattle.std.proofs.lemmas.Bool.{cases_lt, le-leb, le-ltb}
+use Rattle.std.proofs.lemmas.Bool.Decides.{nat_tests}
 use Rattle.logic_four.specs.declared.V4.TheVariants.{Zero}
 use Rattle.logic_four.specs.declared.Kind.{Kind}
-use Rattle.logic_four.specs.declared.Kind.TheVariants.{And, Nand, Or, Nor, Xor, Xnor, Not, Buf, Tri, Bus}
 use Rattle.logic_four.specs.Kinds.{AllowsOperands}
-use Rattle.logic_four.proofs.lemmas.KindLemmas.{some_operands, few_operands}
+use Rattle.logic_four.specs.Folds.{takes_many, base_kind}
+use Rattle.logic_four.proofs.lemmas.KindLemmas.{some_operands}
 use Rattle.func_table.specs.declared.table.Table.{Table}
 use Rattle.node_defs.specs.declared.groups.Group.{Group}
 use Rattle.node_defs.specs.declared.items.Feed.TheVariants.{Fixed, From}
@@ -17,7 +18,7 @@ use Rattle.node_defs.specs.Groups.{group_at, helper_count}
 use Rattle.node_defs.specs.Items.{IsNamed, feed_at, helper_of, wire_tag}
 use Rattle.node_map.specs.code.Nodes.{IsFeed, AreFeeds, IsNodeAt, node_kind}
 use Rattle.node_map.specs.code.Tables.{AddsOnly, HasTable}
-use Rattle.node_map.proofs.lemmas.ShapeLemmas.{shaped, some_groups, narrow_groups}
+use Rattle.node_map.proofs.lemmas.ShapeLemmas.{IsShaped, shaped, some_groups, narrow_groups}
 
 -- four operands, each of its place
 pub four_feeds : (names : List ItemName) (late : Bool) (s : ℕ) (ops : List ℕ) (group : Group) (feeds : Feeds) → group.size ≤ 4
@@ -42,53 +43,36 @@ four_feeds names late s ops group feeds few a no_a b no_b c no_c d no_d = record
   unused (suc (suc (suc (suc i)))) past = refl
 
 -- a kind takes as many operands as the groups of its gates have
-one_place : (n place : ℕ) → n ≤ 4 → place ≤ helper_count n → (place ≡ 0) × (helper_count n ≡ 0) × (group_at n place ≡ record { first = 0; size = n })
-one_place n place few among =
+narrow_size : (n place : ℕ) → n ≤ 4 → place ≤ helper_count n → (group_at n place).size ≡ n
+narrow_size n place few among =
     let none : helper_count n ≡ 0 = rw (narrow_groups n few) refl in
     let here : place ≡ 0 = omega (arith, among, none) in
-    (here, none, rw here (rw (narrow_groups n few) refl))
+    rw here (rw (narrow_groups n few) refl)
 
-pick : (b : Bool) (one other : Kind) (size : ℕ) → AllowsOperands one size → AllowsOperands other size → AllowsOperands (if b then one else other) size
-pick true one other size first second = first
-pick false one other size first second = second
+any_from : (kind : Kind) (n : ℕ) → IsTrue (takes_many kind) → 1 ≤ n → n ≤ 1024 → AllowsOperands kind n
+any_from kind n many some few = grind (arith, le-leb 1 n some, le-leb n 1024 few)
 
-any_from : (n : ℕ) → 1 ≤ n → n ≤ 1024 → AllowsOperands And n
-any_from n some few = rw (le-leb 1 n some) (rw (le-leb n 1024 few) refl)
+-- the group of a node's operands
+pub group_shaped : (kind : Kind) (n place : ℕ) → AllowsOperands kind n → place ≤ helper_count n → IsShaped (n + place) (group_at n place)
+group_shaped kind n place allowed among = shaped n place (some_operands kind n allowed) (omega (arith, among, some_groups n))
 
-any_size : (n place : ℕ) → AllowsOperands And n → place ≤ helper_count n → AllowsOperands And (group_at n place).size
-any_size n place any among =
-    let shape : _ = shaped n place (some_operands And n any) (omega (arith, among, some_groups n)) in
-    any_from (group_at n place).size shape.some (omega (arith, shape.few))
+wide_size : (kind : Kind) (n place : ℕ) → IsTrue (takes_many kind) → AllowsOperands kind n → place ≤ helper_count n → AllowsOperands kind (group_at n place).size
+wide_size kind n place many allowed among =
+    let shape = group_shaped kind n place allowed among in
+    any_from kind (group_at n place).size many shape.some (omega (arith, shape.few))
 
-narrow_size : (n place : ℕ) → n ≤ 4 → place ≤ helper_count n → (group_at n place).size ≡ n
-narrow_size n place few among = ap (λ g. g.size) (one_place n place few among).2
+many_or_few : (kind : Kind) (n : ℕ) → AllowsOperands kind n → IsTrue (takes_many kind) ⊎ (n ≤ 4)
+many_or_few kind n allowed = grind (arith, nat_tests)
 
-single : (n place : ℕ) → n ≡ 1 → place ≤ helper_count n → (group_at n place).size ≡ 1
-single n place one among = narrow_size n place (omega (arith, one)) among ∙ one
+base_allowed : (is_base : Bool) (kind : Kind) (n : ℕ) → AllowsOperands kind n → AllowsOperands (if is_base then base_kind kind else kind) n
+base_allowed is_base kind n allowed = grind arith
 
 -- a node of a gate has as many operands as its kind allows
 pub kind_allowed : (kind : Kind) (n place : ℕ) → AllowsOperands kind n → place ≤ helper_count n → AllowsOperands (node_kind kind n place) (group_at n place).size
-kind_allowed And n place allowed among = pick (nat_lt place (helper_count n)) And And (group_at n place).size (any_size n place allowed among) (any_size n place allowed among)
-kind_allowed Nand n place allowed among = pick (nat_lt place (helper_count n)) And Nand (group_at n place).size (any_size n place allowed among) (any_size n place allowed among)
-kind_allowed Or n place allowed among = pick (nat_lt place (helper_count n)) Or Or (group_at n place).size (any_size n place allowed among) (any_size n place allowed among)
-kind_allowed Nor n place allowed among = pick (nat_lt place (helper_count n)) Or Nor (group_at n place).size (any_size n place allowed among) (any_size n place allowed among)
-kind_allowed Xor n place allowed among = pick (nat_lt place (helper_count n)) Xor Xor (group_at n place).size (any_size n place allowed among) (any_size n place allowed among)
-kind_allowed Xnor n place allowed among = pick (nat_lt place (helper_count n)) Xor Xnor (group_at n place).size (any_size n place allowed among) (any_size n place allowed among)
-kind_allowed Bus n place allowed among = pick (nat_lt place (helper_count n)) Bus Bus (group_at n place).size (any_size n place allowed among) (any_size n place allowed among)
-kind_allowed Not n place allowed among =
-    let size : (group_at n place).size ≡ 1 = single n place (eqb-true n 1 allowed) among in
-    pick (nat_lt place (helper_count n)) Buf Not (group_at n place).size (rw size refl) (rw size refl)
-kind_allowed Buf n place allowed among =
-    let size : (group_at n place).size ≡ 1 = single n place (eqb-true n 1 allowed) among in
-    pick (nat_lt place (helper_count n)) Buf Buf (group_at n place).size (rw size refl) (rw size refl)
-kind_allowed Tri n place allowed among =
-    let two : n ≡ 2 = eqb-true n 2 allowed in
-    let size : (group_at n place).size ≡ 2 = narrow_size n place (omega (arith, two)) among ∙ two in
-    pick (nat_lt place (helper_count n)) Tri Tri (group_at n place).size (rw size refl) (rw size refl)
-
--- no kind allows none, or more than these
-pub some_allowed : (kind : Kind) (n : ℕ) → AllowsOperands kind n → (1 ≤ n) × (n ≤ 1024)
-some_allowed kind n allowed = (some_operands kind n allowed, few_operands kind n allowed)
+kind_allowed kind n place allowed among = base_allowed (nat_lt place (helper_count n)) kind (group_at n place).size (elim (many_or_few kind n allowed) [
+  | inl many ↦ wide_size kind n place many allowed among
+  | inr few ↦ rw (narrow_size n place few among) allowed
+])
 
 -- the node at a place of a gate
 pub made_node : (names : List ItemName) (old tables : List Table) (late : Bool) (s : ℕ) (ops : List ℕ) (kind : Kind) (place table : ℕ) (feeds : Feeds)

@@ -1,21 +1,18 @@
 //! From a netlist to its items.
 
-ghost use Rattle.std.specs.Prelude.{◌≡◌, ℕ, List as Items, IfOk};
+ghost use Rattle.std.specs.Prelude.{ℕ, List as Items, IfOk};
 ghost use Rattle.net_defs.specs.declared.stimulus.Stimulus.{Stimulus};
 ghost use Rattle.net_defs.specs.Steps.{State};
 ghost use Rattle.net_defs.specs.Valid.{IsValid, IsValidTiming};
 ghost use Rattle.net_defs.specs.Loops.{AreRanks, IsOrder};
-ghost use Rattle.func_table.specs.Shelf.{AreDifferent};
-ghost use Rattle.node_defs.specs.Items.{StandFor};
 ghost use Rattle.node_defs.specs.Order.{AreItems};
 ghost use Rattle.node_defs.specs.Values.{AreItemValues, AreReferenceValues};
-ghost use Rattle.node_map.specs.code.Made.{AreMade, AreNodeBlocks};
-ghost use Rattle.node_map.specs.code.Places.{AreKeyed, AreRight, IsNumbering};
+ghost use Rattle.node_map.specs.code.Places.{AreKeyed, AreRight};
 ghost use Rattle.node_map.specs.code.Wires.{AreOwnRanks};
 
-use crate::items::{MadeItems, References, find_references, first_node, make_items};
+use crate::items::{find_references, first_node, make_items};
 use crate::keys::{Key, sorted_keys};
-use crate::numbering::{Numbering, number_items};
+use crate::numbering::number_items;
 use crate::ranks::own_ranks;
 use net_defs::{Netlist, Ranks, Timing};
 use node_defs::NodeNet;
@@ -49,49 +46,16 @@ fn nodes_of(alloc: Global, net: &Netlist, timing: &Timing, keys: &[Key]) -> Resu
     ensures { IfOk result (AreItems net.now timing.now) }
 {
     let numbering = number_items(alloc, net, keys)?;
-    let mapped = map_items(alloc, net, timing, &numbering, keys);
-    let names = numbering.into_names();
-    let first_node = first_node(keys);
-    match mapped {
-        Ok(mapped) => Ok(NodeNet {
-            items: mapped.made.items,
-            names,
-            tables: mapped.made.tables,
-            printed: mapped.references.printed,
-            blocks: mapped.references.blocks,
-            first_node,
-        }),
-        Err(no) => Err(no),
-    }
-}
-
-/// Items with their tables, and what a netlist names of them.
-#[derive(Drop)]
-struct Mapped {
-    made: MadeItems,
-    references: References,
-}
-
-/// The items that have these keys and these numbers, and what the netlist names of them.
-fn map_items(
-    alloc: Global,
-    net: &Netlist,
-    timing: &Timing,
-    numbering: &Numbering,
-    keys: &[Key],
-) -> Result<Mapped, Memory>
-    requires valid { IsValid net.now }
-    requires timing { IsValidTiming timing.now }
-    requires numbered { IsNumbering net.now numbering.now }
-    requires keyed { AreKeyed net.now keys.now }
-    ensures made { IfOk result (λ mapped. AreMade net.now timing.now numbering.now.names mapped.made.tables keys.now mapped.made.items) }
-    ensures different { IfOk result (λ mapped. AreDifferent mapped.made.tables) }
-    ensures printed { IfOk result (λ mapped. StandFor numbering.now.names mapped.references.printed net.now.printed) }
-    ensures blocks { IfOk result (λ mapped. AreNodeBlocks numbering.now.names net.now.blocks mapped.references.blocks) }
-{
-    let made = make_items(alloc, net, timing, numbering, keys)?;
-    let references = find_references(alloc, net, numbering)?;
-    Ok(Mapped { made, references })
+    let made = make_items(alloc, net, timing, &numbering, keys)?;
+    let references = find_references(alloc, net, &numbering)?;
+    Ok(NodeNet {
+        items: made.items,
+        names: numbering.into_names(),
+        tables: made.tables,
+        printed: references.printed,
+        blocks: references.blocks,
+        first_node: first_node(keys),
+    })
 }
 
 /// The items of a netlist in their order: inputs, memory outputs, and then nodes and registers, sorted

@@ -7,7 +7,6 @@ use Rattle.std.proofs.Math.Pow.{pow-lt}
 use Rattle.std.proofs.lemmas.Nat.Bits.{bit_at_or, bit_at_ones, bit_at-zero, bit_at_set_same, bit_at_set_other, bit_at_clear_same, bit_at_clear_other}
 use Rattle.limits.specs.declared.TheConstants.{LANES}
 use Rattle.logic_four.specs.declared.V4.{V4}
-use Rattle.logic_four.specs.declared.V4.TheVariants.{Zero, One, Undef, HighZ}
 use Rattle.logic_four.specs.Values.{code_of, value_of}
 
 -- the word with the bit k cleared, and then the bit put there
@@ -58,7 +57,4 @@ spread (suc (suc bit)) k few low = absurd (omega (arith, few))
 
 -- the value of a code's two bits
 pub value_of_bits : (v : V4) → value_of (code_of v % 2 + 2 * (code_of v / 2)) ≡ v
-value_of_bits Zero = refl
-value_of_bits One = refl
-value_of_bits Undef = refl
-value_of_bits HighZ = refl
+value_of_bits v = grind arith

@@ -1,17 +1,10 @@
 -- The kinds that are answered by one formula.
-use Rattle.std.specs.Prelude.{Bool, true, false}
+use Rattle.std.specs.Prelude.{Bool, false}
 use Rattle.logic_four.specs.declared.Kind.{Kind}
-use Rattle.logic_four.specs.declared.Kind.TheVariants.{And, Nand, Or, Nor, Xor, Xnor, Not, Buf, Tri, Bus}
+use Rattle.logic_four.specs.declared.Kind.TheVariants.{Bus}
+use Rattle.logic_four.specs.Folds.{takes_many}
 
--- the kinds that the formula answers
+-- the kinds that the formula answers: those that may have any number of operands, but for BUS
 abbrev pub is_usual : Kind → Bool
-is_usual And = true
-is_usual Nand = true
-is_usual Or = true
-is_usual Nor = true
-is_usual Xor = true
-is_usual Xnor = true
-is_usual Not = false
-is_usual Buf = false
-is_usual Tri = false
 is_usual Bus = false
+is_usual kind = takes_many kind

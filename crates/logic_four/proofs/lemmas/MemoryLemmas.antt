@@ -7,7 +7,7 @@ use Rattle.std.proofs.lemmas.List.{length-set, length-map, length-replicate, get
 use Rattle.std.proofs.lemmas.Option.{get_or_from_slice_get}
 use Rattle.std.proofs.lemmas.List.Elements.{All-set, All-map, All-replicate, All-get_or}
 use Rattle.logic_four.specs.declared.V4.{V4}
-use Rattle.logic_four.specs.declared.V4.TheVariants.{Zero, One, Undef, HighZ}
+use Rattle.logic_four.specs.declared.V4.TheVariants.{Zero, One, Undef}
 use Rattle.logic_four.specs.Values.{settled}
 use Rattle.logic_four.specs.Gates.{is_known, is_one}
 use Rattle.logic_four.specs.Memory.{bits_number, address_of, undefined_word, word_at, read_word, written_at, written, initial_words, HasShape}
@@ -22,10 +22,7 @@ unknown_bit :
     (bit : V4) (bits others : List V4)
     → settled bit ≡ Undef
     → list_all is_known (bits ++ bit ∷ others) ≡ false
-unknown_bit Zero [] others undefined = cc
-unknown_bit One [] others undefined = cc
-unknown_bit Undef [] others undefined = refl
-unknown_bit HighZ [] others undefined = refl
+unknown_bit bit [] others undefined = grind arith
 unknown_bit bit (b ∷ bits) others undefined =
     rw (unknown_bit bit bits others undefined) (and-false (is_known b))
 
@@ -40,10 +37,7 @@ double_within bit rest k bit_is below = rw pow-suc (omega arith)
 
 -- a bit says 0 or 1
 bit_number-le-one : (bit : V4) → (if is_one bit then 1 else 0) ≤ 1
-bit_number-le-one Zero = omega arith
-bit_number-le-one One = omega arith
-bit_number-le-one Undef = omega arith
-bit_number-le-one HighZ = omega arith
+bit_number-le-one bit = grind arith
 
 -- so many bits say a number below that power of 2
 pub bits_number-within : (bits : List V4) → bits_number bits < 2 ^ length bits
@@ -84,29 +78,21 @@ reads_what_was_written words address d n is within =
 
 pub undefined_enable : UndefinedEnableHidesWord
 unfolding written read_word
-undefined_enable words Zero address d n undefined is within = cc
-undefined_enable words One address d n undefined is within = cc
-undefined_enable words Undef address d n undefined is within =
-    rw is (get_or-set_same words n (undefined_word (length d)) (undefined_word (length d)) within)
-undefined_enable words HighZ address d n undefined is within =
-    rw is (get_or-set_same words n (undefined_word (length d)) (undefined_word (length d)) within)
+undefined_enable words we address d n undefined is within =
+    rw is (grind (arith, get_or-set_same words n (undefined_word (length d)) (undefined_word (length d)) within))
 
 pub other_words : KeepsOtherWords
 unfolding written read_word
 other_words words Zero address d other n m bits is there differ = refl
 other_words words One address d other n m bits is there differ =
     rw (is, there) (get_or-set_other words n m (map settled d) (undefined_word bits) differ)
-other_words words Undef address d other n m bits is there differ =
-    rw (is, there) (get_or-set_other words n m (undefined_word (length d)) (undefined_word bits) differ)
-other_words words HighZ address d other n m bits is there differ =
+other_words words _ address d other n m bits is there differ =
     rw (is, there) (get_or-set_other words n m (undefined_word (length d)) (undefined_word bits) differ)
 
 pub unknown_address_writes : UnknownAddressHidesAll
 unfolding written
 unknown_address_writes words Zero address d enabled hidden = absurd (enabled refl)
-unknown_address_writes words One address d enabled hidden = rw hidden
-unknown_address_writes words Undef address d enabled hidden = rw hidden
-unknown_address_writes words HighZ address d enabled hidden = rw hidden
+unknown_address_writes words _ address d enabled hidden = rw hidden
 
 pub first_shape : BeginsInShape
 unfolding initial_words
@@ -153,13 +139,9 @@ pub shape_at :
 shape_at m n words Zero address d shaped fits = shaped
 shape_at m n words One (Some i) d shaped fits =
     set-HasShape m n words i (map settled d) shaped (length-map d settled ∙ fits)
-shape_at m n words Undef (Some i) d shaped fits =
+shape_at m n words _ (Some i) d shaped fits =
     set-HasShape m n words i (undefined_word (length d)) shaped (length-replicate (length d) Undef ∙ fits)
-shape_at m n words HighZ (Some i) d shaped fits =
-    set-HasShape m n words i (undefined_word (length d)) shaped (length-replicate (length d) Undef ∙ fits)
-shape_at m n words One None d shaped fits = undefined-HasShape m n words shaped
-shape_at m n words Undef None d shaped fits = undefined-HasShape m n words shaped
-shape_at m n words HighZ None d shaped fits = undefined-HasShape m n words shaped
+shape_at m n words _ None d shaped fits = undefined-HasShape m n words shaped
 
 pub shape : KeepsShape
 unfolding written

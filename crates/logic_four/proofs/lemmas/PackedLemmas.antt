@@ -7,10 +7,10 @@ use Rattle.std.proofs.lemmas.List.{ext_get_or, get_or-replicate}
 use Rattle.std.specs.Prelude.{slice_index}
 use Rattle.std.proofs.lemmas.Bool.Decides.{Decides-eqb, Decides-below_and}
 use Rattle.logic_four.specs.declared.V4.{V4}
-use Rattle.logic_four.specs.declared.V4.TheVariants.{Zero, One, Undef, HighZ}
 use Rattle.logic_four.specs.Values.{code_of, value_of}
 use Rattle.logic_four.specs.Packed.{code_in, packed_value}
 use Rattle.logic_four.proofs.lemmas.CodeLemmas.{value_of-code_of, code_of-value_of}
+use Rattle.logic_four.proofs.lemmas.TestLemmas.{at_value}
 
 -- a number is what stands above a place, the code there, and what stands below
 parted : (number s : ℕ) → number ≡ (number / 2 ^ s / 4 * 4 + number / 2 ^ s % 4) * 2 ^ s + number % 2 ^ s
@@ -117,10 +117,9 @@ from_all_below f m n passes =
 
 -- a code times the number of 32 ones has that code in each place
 pub codes_of_filled : (v : V4) (k : ℕ) → k < 32 → code_in (code_of v * 6148914691236517205) k ≡ code_of v
-codes_of_filled Zero = from_all_below (λ k. code_in (0 * 6148914691236517205) k) 0 32 refl
-codes_of_filled One = from_all_below (λ k. code_in (1 * 6148914691236517205) k) 1 32 refl
-codes_of_filled Undef = from_all_below (λ k. code_in (2 * 6148914691236517205) k) 2 32 refl
-codes_of_filled HighZ = from_all_below (λ k. code_in (3 * 6148914691236517205) k) 3 32 refl
+codes_of_filled v =
+    let ones : ℕ = 6148914691236517205 in
+    from_all_below (λ k. code_in (code_of v * ones) k) (code_of v) 32 (at_value (λ w. all_below (λ k. eqb (code_in (code_of w * ones) k) (code_of w)) 32) v refl)
 
 -- ---- two words with the same codes are the same
 

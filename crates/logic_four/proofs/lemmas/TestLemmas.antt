@@ -1,6 +1,5 @@
 -- Tests that each of the four values passes.
-use Rattle.std.proofs.Common.{◌≡◌, ◌∙◌, Bool, true, ◌&&◌, eqb, eqb-true, sym, ap}
-use Rattle.std.proofs.lemmas.Bool.{and_parts}
+use Rattle.std.proofs.Common.{◌≡◌, ◌∙◌, Bool, true, ◌&&◌, eqb, eqb-true, sym, ap, arith}
 use Rattle.logic_four.specs.declared.V4.{V4}
 use Rattle.logic_four.specs.declared.V4.TheVariants.{Zero, One, Undef, HighZ}
 use Rattle.logic_four.specs.Values.{code_of, value_of}
@@ -18,18 +17,7 @@ for_each test = test Zero && (test One && (test Undef && test HighZ))
 
 -- what each passes this one passes
 pub at_value : (test : V4 → Bool) (v : V4) → for_each test ≡ true → test v ≡ true
-at_value test v e = by_value v where
-  one : (test One && (test Undef && test HighZ)) ≡ true
-  one = (and_parts (test Zero) (test One && (test Undef && test HighZ)) e).1
-
-  last : (test Undef && test HighZ) ≡ true
-  last = (and_parts (test One) (test Undef && test HighZ) one).1
-
-  by_value : (v : V4) → test v ≡ true
-  by_value Zero = (and_parts (test Zero) (test One && (test Undef && test HighZ)) e).0
-  by_value One = (and_parts (test One) (test Undef && test HighZ) one).0
-  by_value Undef = (and_parts (test Undef) (test HighZ) last).0
-  by_value HighZ = (and_parts (test Undef) (test HighZ) last).1
+at_value test v e = grind arith
 
 -- functions of two values that answer all sixteen pairs alike
 pub two_same : (f g : V4 → V4 → V4) → for_each (λ v. for_each (λ w. same (f v w) (g v w))) ≡ true → (v w : V4) → f v w ≡ g v w

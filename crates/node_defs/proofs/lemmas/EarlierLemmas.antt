@@ -1,5 +1,5 @@
 -- An operand that is taken at this turn stands before the node that takes it.
-use Rattle.std.proofs.Common.{◌≡◌, ◌∙◌, ◌⊎◌, inl, inr, ℕ, zero, suc, ◌+◌, ◌<◌, ◌≤◌, Bool, List, length, get_or, refl, sym, ap, subst, arith}
+use Rattle.std.proofs.Common.{◌≡◌, ◌∙◌, ◌⊎◌, inl, inr, ℕ, ◌+◌, ◌<◌, ◌≤◌, Bool, List, length, get_or, refl, sym, ap, subst, arith}
 use Rattle.std.specs.Prelude.{Option, Some, None, slice_get}
 use Rattle.std.proofs.lemmas.Bool.{cases_lt, le-ltb}
 use Rattle.std.proofs.lemmas.Option.{slice_get_within}
@@ -26,17 +26,11 @@ use Rattle.node_defs.proofs.lemmas.NameLemmas.{name_at, named_item}
 
 -- a node's rank is at least what each operand asks for
 pub rank_at_least : (first_node : ℕ) (ranks : List ℕ) (table : ℕ) (feeds : Feeds) (i : ℕ) → rank_after_feed first_node ranks (feed_at feeds i) ≤ rank_of first_node ranks (Node table feeds)
-rank_at_least first_node ranks table feeds zero = omega arith
-rank_at_least first_node ranks table feeds (suc zero) = omega arith
-rank_at_least first_node ranks table feeds (suc (suc zero)) = omega arith
-rank_at_least first_node ranks table feeds (suc (suc (suc zero))) = omega arith
-rank_at_least first_node ranks table feeds (suc (suc (suc (suc i)))) = omega arith
+rank_at_least first_node ranks table feeds i = grind arith
 
 -- what comes before has no greater rank, in one class
 before_rank : (a b : Key) → Before a b → a.class ≡ b.class → a.rank ≤ b.rank
-before_rank a b (inl lower) same = absurd (omega (arith, lower, same))
-before_rank a b (inr (class, inl lower)) same = omega (arith, lower)
-before_rank a b (inr (class, inr (rank, other))) same = omega (arith, rank)
+before_rank a b before same = grind arith
 
 module _ (net : Netlist) (timing : Timing) (nodes : NodeNet) (are : AreItems net timing nodes) where
   -- an operand of a node of a gate is some item

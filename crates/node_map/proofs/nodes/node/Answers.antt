@@ -1,52 +1,45 @@
-use Rattle.std.proofs.Common.{◌≡◌, ◌∙◌, ◌+◌, ◌<◌, length, ap, subst, arith}
+use Rattle.std.proofs.Common.{◌≡◌, ◌∙◌, length, ap, subst, arith}
 use Rattle.logic_four.specs.declared.Kind.{Kind}
+use Rattle.logic_four.proofs.lemmas.KindLemmas.{few_operands}
 use Rattle.node_defs.specs.declared.groups.Group.{Group}
-use Rattle.node_defs.specs.Groups.{groups, group_at}
+use Rattle.node_defs.specs.Groups.{group_at}
 use Rattle.node_map.specs.code.Wires.{operands_of}
 use Rattle.node_map.specs.code.Nodes.{node_kind, AreFeeds}
 use Rattle.node_map.specs.code.Tables.{HasTable}
-use Rattle.node_map.proofs.lemmas.ShapeLemmas.{IsShaped, shaped, some_groups, few_groups}
-use Rattle.node_map.proofs.MadeNodeLemmas.{made_node, kind_allowed, some_allowed}
+use Rattle.node_map.proofs.lemmas.ShapeLemmas.{some_groups, few_groups}
+use Rattle.node_map.proofs.MadeNodeLemmas.{group_shaped, made_node, kind_allowed}
 use Rattle.node_map.proofs.nodes.node.Goals as goal
 
-pub group_at-group-requires-clause-few : goal.group_at-group-requires-clause-few
-group_at-group-requires-clause-few c =
-    rw c.operands.ensures (some_allowed c.args.kind (length (operands_of c.args.net.now c.args.signal)) c.requires.allowed).1
-
-pub group_at-group-requires-clause-within : goal.group_at-group-requires-clause-within
-group_at-group-requires-clause-within c =
-    rw c.operands.ensures (omega (arith, c.requires.among, some_groups (length (operands_of c.args.net.now c.args.signal))))
-
-pub number-requires-clause-few : goal.number-requires-clause-few
-number-requires-clause-few c =
+pub group_at-group-requires : goal.group_at-group-requires
+group_at-group-requires c =
     let n = length (operands_of c.args.net.now c.args.signal) in
-    let within : c.args.place < length (groups n) = omega (arith, c.requires.among, some_groups n) in
-    let shape : IsShaped (n + c.args.place) (group_at n c.args.place) = shaped n c.args.place (some_allowed c.args.kind n c.requires.allowed).0 within in
-    rw c.group_at-group.ensures (rw c.operands.ensures shape.few)
+    rw c.operands.ensures (record {
+      few = few_operands c.args.kind n c.requires.allowed;
+      within = omega (arith, c.requires.among, some_groups n);
+    })
 
-pub number-requires-clause-allowed : goal.number-requires-clause-allowed
-number-requires-clause-allowed c =
-    rw c.node_kind.ensures (rw c.group_at-group.ensures (rw c.operands.ensures
-    (kind_allowed c.args.kind (length (operands_of c.args.net.now c.args.signal)) c.args.place c.requires.allowed c.requires.among)))
-
-pub feeds-feeds-requires-clause-low : goal.feeds-feeds-requires-clause-low
-feeds-feeds-requires-clause-low c =
+pub number-requires : goal.number-requires
+number-requires c =
     let n = length (operands_of c.args.net.now c.args.signal) in
-    omega (arith, few_groups n, (some_allowed c.args.kind n c.requires.allowed).1)
+    rw (c.node_kind.ensures, c.group_at-group.ensures, c.operands.ensures) (record {
+      few = (group_shaped c.args.kind n c.args.place c.requires.allowed c.requires.among).few;
+      allowed = kind_allowed c.args.kind n c.args.place c.requires.allowed c.requires.among;
+      room = c.requires.room;
+      known = c.requires.known;
+    })
 
-pub feeds-feeds-requires-clause-few : goal.feeds-feeds-requires-clause-few
-feeds-feeds-requires-clause-few c =
+pub feeds-feeds-requires : goal.feeds-feeds-requires
+feeds-feeds-requires c =
     let n = length (operands_of c.args.net.now c.args.signal) in
-    let within : c.args.place < length (groups n) = omega (arith, c.requires.among, some_groups n) in
-    let shape : IsShaped (n + c.args.place) (group_at n c.args.place) = shaped n c.args.place (some_allowed c.args.kind n c.requires.allowed).0 within in
-    rw c.group_at-group.ensures (rw c.operands.ensures shape.few)
-
-pub feeds-feeds-requires-clause-wires : goal.feeds-feeds-requires-clause-wires
-feeds-feeds-requires-clause-wires c =
-    let n = length (operands_of c.args.net.now c.args.signal) in
-    let within : c.args.place < length (groups n) = omega (arith, c.requires.among, some_groups n) in
-    let shape : IsShaped (n + c.args.place) (group_at n c.args.place) = shaped n c.args.place (some_allowed c.args.kind n c.requires.allowed).0 within in
-    rw c.group_at-group.ensures (rw c.operands.ensures (omega (arith, shape.ends, c.requires.among)))
+    let shape = group_shaped c.args.kind n c.args.place c.requires.allowed c.requires.among in
+    rw (c.group_at-group.ensures, c.operands.ensures) (record {
+      numbered = c.requires.numbered;
+      there = c.requires.there;
+      within = c.requires.within;
+      low = omega (arith, few_groups n, few_operands c.args.kind n c.requires.allowed);
+      few = shape.few;
+      wires = omega (arith, shape.ends, c.requires.among);
+    })
 
 pub returns : goal.returns
 returns c =

@@ -11,21 +11,13 @@ overflow_mul-number c =
     c.self.invariant c.self.view_is within (c.requires.fits c.in-Some.number [] within) in
     omega arith
 
-pub read-requires-clause-within : goal.read-requires-clause-within
-read-requires-clause-within c =
+pub read-requires : goal.read-requires
+read-requires c =
     let within = rw c.in-Some.is at c.requires.within in
     let is =
     word_in c.self.inside c.args.self.now c.in-Some.number (length c.args.outs.now)
     c.self.invariant c.self.view_is within (c.requires.fits c.in-Some.number [] within) in
-    omega arith
-
-pub read-requires-clause-small : goal.read-requires-clause-small
-read-requires-clause-small c =
-    let within = rw c.in-Some.is at c.requires.within in
-    let is =
-    word_in c.self.inside c.args.self.now c.in-Some.number (length c.args.outs.now)
-    c.self.invariant c.self.view_is within (c.requires.fits c.in-Some.number [] within) in
-    omega arith
+    record { within = omega arith; small = omega arith }
 
 pub returns-in-Some : goal.returns-in-Some
 returns-in-Some c =

@@ -10,19 +10,12 @@ overflow_mul-number c =
     c.self.invariant c.self.view_is c.requires.within c.requires.fits in
     omega arith
 
-pub store-requires-clause-within : goal.store-requires-clause-within
-store-requires-clause-within c =
+pub store-requires : goal.store-requires
+store-requires c =
     let is =
     word_in c.self.inside c.args.self.now c.args.number (length c.args.word.now)
     c.self.invariant c.self.view_is c.requires.within c.requires.fits in
-    omega arith
-
-pub store-requires-clause-small : goal.store-requires-clause-small
-store-requires-clause-small c =
-    let is =
-    word_in c.self.inside c.args.self.now c.args.number (length c.args.word.now)
-    c.self.invariant c.self.view_is c.requires.within c.requires.fits in
-    omega arith
+    record { within = omega arith; small = omega arith }
 
 pub returns : goal.returns
 returns c =

@@ -10,13 +10,11 @@ number_of-requires c =
     sym (length-words_of c.self.inside.sheet c.self.inside.words c.self.inside.word_bits) ∙ ap length c.self.view_is in
     few_bits (length c.args.address.now) (omega arith)
 
-pub returns-then-all_known-clause-address : goal.returns-then-all_known-clause-address
-returns-then-all_known-clause-address c =
-    address_of-known c.args.address.now c.number_of.result (sym c.all_known.ensures ∙ c.if-all_known.true) c.number_of.ensures
+pub returns-then-all_known : goal.returns-then-all_known
+returns-then-all_known c = record {
+  address = address_of-known c.args.address.now c.number_of.result (sym c.all_known.ensures ∙ c.if-all_known.true) c.number_of.ensures;
+  within = rw (c.number_of.ensures, c.requires) (bits_number-within c.args.address.now);
+}
 
 pub returns-else-all_known-clause-address : goal.returns-else-all_known-clause-address
 returns-else-all_known-clause-address c = address_of-unknown c.args.address.now (sym c.all_known.ensures ∙ c.if-all_known.false)
-
-pub returns-then-all_known-clause-within : goal.returns-then-all_known-clause-within
-returns-then-all_known-clause-within c =
-    rw (c.number_of.ensures, c.requires) (bits_number-within c.args.address.now)
