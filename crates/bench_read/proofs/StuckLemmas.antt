@@ -18,6 +18,7 @@ use Rattle.bench_read.specs.GateLists.{is_name, names_in}
 use Rattle.bench_read.specs.Once.{is_among}
 use Rattle.bench_read.specs.code.StuckLists.{AreStuckMarks}
 use Rattle.bench_read.specs.StuckLists.{value_of, value_in, value_after, signal_named, stuck_at, stuck_by, stuck_of, stuck_in, Reads, bit_of, number_of, stuck_fault, value_fault, words_fault, fault_of, first_fault}
+use Rattle.bench_read.proofs.OnlyLemmas.{value_or_fault}
 use Rattle.bench_read.proofs.OnceLemmas.{IsFine, Differ, named_hold, once_from_none, none_from_once}
 
 -- ---- one line
@@ -196,7 +197,4 @@ one_list net text faults other reads reads_other = reads.are ∙ sym reads_other
 
 -- each text reads as a list of stuck faults, or it has a first fault
 pub reads_or_fault : (net : Netlist) (text : List ℕ) → ((faults : List Fault) × Reads net text faults) ⊎ ((why : FaultNo) × (first_fault net text ≡ Some why))
-reads_or_fault net text = value_or_fault (first_fault net text) refl where
-  value_or_fault : (fault : Option FaultNo) → first_fault net text ≡ fault → ((faults : List Fault) × Reads net text faults) ⊎ ((why : FaultNo) × (first_fault net text ≡ Some why))
-  value_or_fault None is = inl (stuck_in net (parts_of text), reads_from_none net text _ is refl)
-  value_or_fault (Some why) is = inr (why, is)
+reads_or_fault net text = value_or_fault (Reads net text) (first_fault net text) (stuck_in net (parts_of text)) (λ none. reads_from_none net text _ none refl)

@@ -29,13 +29,8 @@ pub fn read_rows<'a>(alloc: Global, text: &'a [u8]) -> Result<Draft<'a>, BenchNo
     ensures { Answers NoMemory result (rows_fault (rows_of text.now)) (IsDraftOf (rows_of text.now)) }
 {
     let mut draft = Draft::new(alloc);
-    match read_lines(alloc, text, &mut draft) {
-        Ok(()) => Ok(draft),
-        Err(no) => {
-            drop(draft);
-            Err(no)
-        }
-    }
+    read_lines(alloc, text, &mut draft)?;
+    Ok(draft)
 }
 
 /// Adds what the lines of the text say to a draft of no lines, or answers the fault of the first line that has one.
@@ -84,15 +79,13 @@ fn read_row<'a>(
 {
     let mut outs = List::new(alloc);
     let (act, name) = read_act(at, part, &mut outs, &mut draft.uses)?;
-    let driven = drive(
+    drive(
         alloc,
         at,
         driven_by(act, &[name], outs.as_slice()),
         &mut draft.names,
         &mut draft.drivers,
-    );
-    drop(outs);
-    driven?;
+    )?;
     draft.operands += operands_by(act);
     check_limits(at, draft.drivers.len(), draft.operands)?;
     draft.statements.push(Statement { act, at })?;
