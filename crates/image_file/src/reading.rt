@@ -46,10 +46,7 @@ fn read_lines(alloc: Global, bytes: &[u8]) -> Result<ImageFile, ImageNo>
     let mut rest = bytes;
     let mut number = 1;
     'lines: while let Some((line, behind)) = first_line(rest) {
-        draft = match follow(alloc, number, draft, line) {
-            Ok(longer) => longer,
-            Err(no) => return Err(no),
-        };
+        draft = follow(alloc, number, draft, line)?;
         rest = behind;
         number += 1;
     }
@@ -67,13 +64,8 @@ fn first_line(text: &[u8]) -> Option<(&[u8], &[u8])>
 fn follow(alloc: Global, number: u32, draft: Draft, bytes: &[u8]) -> Result<Draft, ImageNo>
     ensures { AnswersAs NoMemory result (after_line number draft (line_read bytes.now)) }
 {
-    match line_behind(alloc, number, &draft, bytes) {
-        Ok(line) => longer(alloc, draft, line),
-        Err(no) => {
-            drop(draft);
-            Err(no)
-        }
-    }
+    let line = line_behind(alloc, number, &draft, bytes)?;
+    longer(alloc, draft, line)
 }
 
 /// What the line of this number says, if it may follow the text so far.
@@ -86,13 +78,8 @@ fn line_behind(alloc: Global, number: u32, draft: &Draft, bytes: &[u8]) -> Resul
 {
     match read_line(alloc, bytes) {
         Ok((line, within)) => {
-            match may_follow(number, draft, &line, within) {
-                Ok(()) => Ok(line),
-                Err(no) => {
-                    drop(line);
-                    Err(no)
-                }
-            }
+            may_follow(number, draft, &line, within)?;
+            Ok(line)
         }
         Err(LineNo::Syntax) => Err(ImageNo::Syntax { line: number }),
         Err(LineNo::Memory) => Err(ImageNo::Memory),
@@ -135,10 +122,7 @@ fn finished(number: u32, draft: Draft, rest: &[u8]) -> Result<ImageFile, ImageNo
 {
     match draft {
         Draft::Ended(file) => ended(number, file, rest),
-        other => {
-            drop(other);
-            Err(ImageNo::Syntax { line: number })
-        }
+        _ => Err(ImageNo::Syntax { line: number }),
     }
 }
 
