@@ -68,7 +68,7 @@ says_behind text one allowed =
 
 nothing_apart : (said : Says) → same_given said Nothing ≡ false
 nothing_apart Nothing = refl
-nothing_apart other = refl
+nothing_apart said = refl
 
 said_behind : (says : List Says) → machine_said (Nothing ∷ says) ≡ machine_said says
 unfolding settings_of limits_of

@@ -1,6 +1,6 @@
 //! The reader of machine texts.
 
-ghost use Rattle.std.specs.Prelude.{◌≡◌, ◌≤◌, ℕ, true, None, MatchResult, IfOk, All, length, if◌then◌else◌};
+ghost use Rattle.std.specs.Prelude.{◌≡◌, ◌≤◌, true, None, MatchResult, IfOk, All, length};
 ghost use Rattle.limits.specs.declared.TheConstants.{MAX_TEXT_BYTES};
 ghost use Rattle.text_lines.specs.Answers.{Answers, first};
 ghost use Rattle.text_lines.specs.code.Answers.{fault_or};
