@@ -47,12 +47,10 @@ unfolding fault_of stuck_of
 fine_from_none net named line part none = fine_words net named line (words_of part) none
 
 none_value : (named : List Fault) (line : ℕ) (signal : Option ℕ) (value : Option V4) (stuck : Fault) → stuck_at signal value ≡ Some stuck → is_among number_of named stuck ≡ false → value_fault named line signal value ≡ None
-none_value named line None None stuck is new = cc
-none_value named line None (Some v) stuck is new = cc
-none_value named line (Some s) None stuck is new = cc
 none_value named line (Some s) (Some v) stuck is new =
     let same : record { signal = s; value = v } ≡ stuck = cc in
     cond-false (is_among number_of named (record { signal = s; value = v })) _ _ (ap (is_among number_of named) same ∙ new)
+none_value named line signal value stuck is new = cc
 
 none_words : (net : Netlist) (named : List Fault) (line : ℕ) (stuck : Fault) (words : List (List ℕ)) → stuck_by net words ≡ Some stuck → is_among number_of named stuck ≡ false → words_fault net named line words ≡ None
 none_words net named line stuck [] is new = cc
@@ -101,12 +99,10 @@ signal_within net name s is =
     omega (arith, (position-Some (bytes_eq name) (names_in net) s [] is).0, length-map net.signals (λ (signal : Signal). signal.name))
 
 stuck_is : (net : Netlist) (signal : Option ℕ) (value : Option V4) (stuck : Fault) → ((s : ℕ) → signal ≡ Some s → s < length net.signals) → ((v : V4) → value ≡ Some v → IsKnown v) → stuck_at signal value ≡ Some stuck → IsFault net stuck
-stuck_is net None None stuck within known is = cc
-stuck_is net None (Some v) stuck within known is = cc
-stuck_is net (Some s) None stuck within known is = cc
 stuck_is net (Some s) (Some v) stuck within known is =
     let same : record { signal = s; value = v } ≡ stuck = cc in
     subst (IsFault net) same (record { signal = within s refl; value = known v refl })
+stuck_is net signal value stuck within known is = cc
 
 words_are : (net : Netlist) (words : List (List ℕ)) (stuck : Fault) → stuck_by net words ≡ Some stuck → IsFault net stuck
 words_are net [] stuck is = cc

@@ -1,12 +1,11 @@
 //! The netlist that the lines of a draft make.
 
-ghost use Rattle.std.specs.Prelude.{◌≡◌, ◌+◌, ◌<◌, ◌^◌, [], ◌∷◌, ◌++◌, map, take, drop, length, slice_index, OnOk};
-ghost use Rattle.std.specs.List.{flat_map, range_with_len};
+ghost use Rattle.std.specs.Prelude.{◌≡◌, ◌+◌, ◌<◌, ◌^◌, [], ◌∷◌, ◌++◌, map, drop, length, slice_index, OnOk};
+ghost use Rattle.std.specs.List.{flat_map};
 ghost use Rattle.text_lines.specs.Answers.{Answers};
 ghost use Rattle.bench_read.specs.declared.refusal.BenchNo.TheVariants.{Memory as NoMemory};
 ghost use Rattle.bench_read.specs.Faults.{uses_fault};
-ghost use Rattle.bench_read.specs.Lines.{used};
-ghost use Rattle.bench_read.specs.code.Making.{seen, with_line, with_signal, with_memory};
+ghost use Rattle.bench_read.specs.code.Making.{seen, with_line, with_memory};
 ghost use Rattle.bench_read.specs.Netlists.{input_names, other_names, names_of, numbers, input_signal, bit_signals, netlist_of};
 ghost use Rattle.bench_read.specs.code.Drafting.{IsWhole, used_names, placed_in, lines_in};
 

@@ -120,18 +120,8 @@ fn name_in(head: Head) -> &[u8]
     ensures { result.now ≡ name_in head.entry }
 {
     match head {
-        Head::Port { word: _, name } => name,
-        Head::Gate {
-            name,
-            word: _,
-            uses: _,
-        } => name,
-        Head::Memory {
-            word: _,
-            outs: _,
-            address: _,
-            words: _,
-        } => &[],
+        Head::Port { name, .. } | Head::Gate { name, .. } => name,
+        Head::Memory { .. } => &[],
     }
 }
 
@@ -154,11 +144,7 @@ fn driven_by<'s, 'a>(act: Act, one: &'s [&'a [u8]], outs: &'s [&'a [u8]]) -> &'s
 {
     match act {
         Act::Output => &[],
-        Act::Memory {
-            outs: _,
-            address: _,
-            words: _,
-        } => outs,
+        Act::Memory { .. } => outs,
         _ => one,
     }
 }
@@ -169,13 +155,9 @@ fn operands_by(act: Act) -> usize
 {
     match act {
         Act::Input | Act::Output => 0,
-        Act::Gate { kind: _, uses } => uses as usize,
+        Act::Gate { uses, .. } => uses as usize,
         Act::Register => 1,
-        Act::Memory {
-            outs: _,
-            address,
-            words,
-        } => 1 + (address as usize + words as usize),
+        Act::Memory { address, words, .. } => 1 + (address as usize + words as usize),
     }
 }
 
