@@ -189,8 +189,13 @@ fn same_port(mut body: Body, said: Line) -> Result<Draft, Memory>
     requires small { drafts.bits_with body.current.bits said < 2 ^ 64 }
     ensures { IfOk result (λ after. after ≡ draft.Within (record body { current = drafts.open_with body.current said })) }
 {
-    add_line(&mut body, said)?;
-    Ok(Draft::Within(body))
+    match add_line(&mut body, said) {
+        Ok(()) => Ok(Draft::Within(body)),
+        Err(no) => {
+            drop(body);
+            Err(no)
+        }
+    }
 }
 
 /// Adds a line to the port that is being read.
