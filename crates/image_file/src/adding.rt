@@ -213,8 +213,13 @@ fn open_with(so_far: &mut OpenPort, said: Line) -> Result<(), Memory>
     ensures { OnOk result (so_far.new ≡ drafts.open_with so_far.old said) }
 {
     so_far.bits = bits_with(so_far.bits, &said);
-    push_item(&mut so_far.items, &said)?;
-    port_with(&mut so_far.port, said)
+    match push_item(&mut so_far.items, &said) {
+        Ok(()) => port_with(&mut so_far.port, said),
+        Err(no) => {
+            drop(said);
+            Err(no)
+        }
+    }
 }
 
 fn bits_with(bits: u64, said: &Line) -> u64

