@@ -13,6 +13,7 @@ mod MarkLemmas
 mod NameLemmas
 mod NumberLemmas
 mod OnceLemmas
+mod OnlyLemmas
 mod PieceLemmas
 mod PlainLemmas
 mod ReadLemmas

@@ -8,6 +8,7 @@ use Rattle.net_defs.specs.Steps.{is_listed}
 use Rattle.bench_read.specs.declared.refusal.LastNo.{LastNo}
 use Rattle.bench_read.specs.declared.refusal.LastNo.TheVariants.{Syntax, Twice}
 use Rattle.bench_read.specs.GateLists.{is_name, gate_named, gate_of_words, gate_of, gates_of, ascending, Reads, gate_fault, words_fault, fault_of, first_fault}
+use Rattle.bench_read.proofs.OnlyLemmas.{value_or_fault}
 use Rattle.bench_read.proofs.OnceLemmas.{IsFine, once_from_none, none_from_once}
 
 -- ---- one line
@@ -74,7 +75,4 @@ one_list net text listed other reads reads_other = reads.are ∙ sym reads_other
 
 -- each text reads as a list of gates, or it has a first fault
 pub reads_or_fault : (net : Netlist) (text : List ℕ) → ((listed : List ℕ) × Reads net text listed) ⊎ ((why : LastNo) × (first_fault net text ≡ Some why))
-reads_or_fault net text = value_or_fault (first_fault net text) refl where
-  value_or_fault : (fault : Option LastNo) → first_fault net text ≡ fault → ((listed : List ℕ) × Reads net text listed) ⊎ ((why : LastNo) × (first_fault net text ≡ Some why))
-  value_or_fault None is = inl (ascending net (gates_of net (parts_of text)), reads_from_none net text _ is refl)
-  value_or_fault (Some why) is = inr (why, is)
+reads_or_fault net text = value_or_fault (Reads net text) (first_fault net text) (ascending net (gates_of net (parts_of text))) (λ none. reads_from_none net text _ none refl)

@@ -1,10 +1,10 @@
 -- Texts whose lines are blank or name something, each thing once: the loop over the lines, and what a
 -- text without a fault is.
-use Rattle.std.proofs.Common.{◌≡◌, ◌≢◌, ◌⊎◌, ℕ, zero, suc, ◌+◌, ◌<◌, ◌≤◌, Bool, true, false, List, [], ◌∷◌, ◌++◌, length, take, drop, get_or, set, Option, Some, None, inl, inr, sym, ap, ◌∙◌, subst, refl, arith, append-nil, add-one, eqb, length-append, replicate, ◌||◌}
+use Rattle.std.proofs.Common.{◌≡◌, ◌≢◌, ◌⊎◌, ℕ, zero, suc, ◌+◌, ◌<◌, ◌≤◌, Bool, true, false, List, [], ◌∷◌, ◌++◌, length, take, drop, get_or, set, Option, Some, None, Ok, Err, inl, inr, sym, ap, ◌∙◌, subst, refl, arith, append-nil, add-one, eqb, length-append, replicate, ◌||◌}
 use Rattle.std.proofs.Math.Bool.{or-false}
 use Rattle.std.proofs.Math.Seq.{get_or-append_seam}
 use Rattle.std.specs.Prelude.{AllPairs, All}
-use Rattle.std.specs.List.{cons_option, filter_map, list_any}
+use Rattle.std.specs.List.{cons_option, enumerate_from, filter_map, list_any}
 use Rattle.std.proofs.lemmas.Bool.{eq-eqb, or_right}
 use Rattle.std.proofs.lemmas.Bool.Decides.{eqb_tells}
 use Rattle.std.proofs.lemmas.List.{take_more, take_all, get_or_append_left, length-set, get_or-set_same, get_or-set_other, get_or-replicate, length-replicate}
@@ -14,8 +14,10 @@ use Rattle.std.proofs.lemmas.List.Quantifiers.{all_pairs_push}
 use Rattle.list_laws.proofs.Places.{split_at}
 use Rattle.text_lines.specs.Answers.{first}
 use Rattle.text_lines.specs.Words.{words_of}
+use Rattle.text_lines.specs.code.Answers.{fault_or}
+use Rattle.text_lines.proofs.FaultLemmas.{fault_or_err, fault_or_ok}
 use Rattle.text_lines.proofs.lemmas.AnswerLemmas.{first-zero, first_none, first_none_more, first_some, none_below}
-use Rattle.text_lines.proofs.lemmas.LineLemmas.{IsNextLine}
+use Rattle.text_lines.proofs.lemmas.LineLemmas.{IsNextLine, next_line, no_next_line}
 use Rattle.bench_read.specs.Once.{is_among, fault_at, first_fault_of}
 use Rattle.bench_read.specs.code.Once.{AreMarksOf}
 
@@ -141,54 +143,72 @@ mark_one {X = X} number places named marks x are within = record {
 
 -- ---- the loop over the lines
 
--- k lines have passed, which had no fault, and what they named is marked
-pub record HasMarked {X E : Type 0} (number : X → ℕ) (item : List ℕ → Option X) (fault : List X → ℕ → List ℕ → Option E) (places : ℕ) (parts : List (List ℕ)) (k : ℕ) (marks : List Bool) : Type 0 where
+-- k lines have passed, which had no fault, what they named is marked, and these are ahead
+pub record HasMarked {X E : Type 0} (number : X → ℕ) (item : List ℕ → Option X) (fault : List X → ℕ → List ℕ → Option E) (places : ℕ) (parts : List (List ℕ)) (k : ℕ) (ahead : List (ℕ × List ℕ)) (marks : List Bool) : Type 0 where
+  pub within : k ≤ length parts
+  pub left : ahead ≡ enumerate_from (k + 1) (drop k parts)
   pub are : AreMarksOf number places (filter_map item (take k parts)) marks
   pub no_fault : first (fault_at item fault parts) k ≡ None
 
--- the line after those that have passed has its fault
-here : {X E : Type 0} (item : List ℕ → Option X) (fault : List X → ℕ → List ℕ → Option E) {parts : List (List ℕ)} {k line : ℕ} {part : List ℕ} {left : List (ℕ × List ℕ)} → IsNextLine parts k line part left → fault_at item fault parts k ≡ fault (filter_map item (take k parts)) line part
-here item fault next = rw (next.number, next.here) refl
+module _ {X E : Type 0} {number : X → ℕ} {item : List ℕ → Option X} {fault : List X → ℕ → List ℕ → Option E} {places : ℕ} {parts : List (List ℕ)} where
+  pub marked_none : {ahead : List (ℕ × List ℕ)} {marks : List Bool} → ahead ≡ enumerate_from 1 parts → AreMarksOf number places [] marks → HasMarked number item fault places parts 0 ahead marks
+  marked_none left are = record { within = omega arith; left = left; are = are; no_fault = first-zero _ }
 
--- what it names, after what they name
-pub passed_more : {X : Type 0} (item : List ℕ → Option X) {parts : List (List ℕ)} {k line : ℕ} {part : List ℕ} {left : List (ℕ × List ℕ)} (o : Option X) → IsNextLine parts k line part left → item part ≡ o → filter_map item (take (k + 1) parts) ≡ filter_map item (take k parts) ++ cons_option o []
-passed_more item {parts = parts} {k = k} o next is =
-    items_more item parts k next.within ∙ ap (λ p. filter_map item (take k parts) ++ cons_option p []) (ap item (sym next.here) ∙ is)
+  module _ {k : ℕ} {ahead : List (ℕ × List ℕ)} {marks : List Bool} (so : HasMarked number item fault places parts k ahead marks) where
+    -- all lines have passed
+    module _ (none : ahead ≡ []) where
+      pub all_passed : take k parts ≡ parts
+      all_passed = take_all k parts (no_next_line _ _ _ so.left none)
 
-module _ {X E : Type 0} {number : X → ℕ} {item : List ℕ → Option X} {fault : List X → ℕ → List ℕ → Option E} {places : ℕ} where
-  pub marked_none : (parts : List (List ℕ)) {marks : List Bool} → AreMarksOf number places [] marks → HasMarked number item fault places parts 0 marks
-  marked_none parts are = record { are = are; no_fault = first-zero _ }
+      pub marked_all : (first_fault_of item fault parts ≡ None) × AreMarksOf number places (filter_map item parts) marks
+      marked_all =
+          let past : length parts ≤ k = no_next_line _ _ _ so.left none in
+          let all : k ≡ length parts = omega (arith, past, so.within) in (
+            subst (λ n. first (fault_at item fault parts) n ≡ None) all so.no_fault,
+            subst (λ ps. AreMarksOf number places (filter_map item ps) marks) all_passed so.are,
+          )
 
-  no_fault_more : {parts : List (List ℕ)} {k line : ℕ} {part : List ℕ} {left : List (ℕ × List ℕ)} {marks : List Bool} → HasMarked number item fault places parts k marks → IsNextLine parts k line part left → fault (filter_map item (take k parts)) line part ≡ None → first (fault_at item fault parts) (k + 1) ≡ None
-  no_fault_more {parts = parts} {k = k} so next none =
-      rw add-one (first_none_more (fault_at item fault parts) k so.no_fault (here item fault next ∙ none))
+    -- a line comes
+    module _ {line : ℕ} {part : List ℕ} {later : List (ℕ × List ℕ)} (comes : ahead ≡ (line, part) ∷ later) where
+      next : IsNextLine parts k line part later
+      next = next_line parts k line part later ahead so.left comes
 
-  -- a blank line
-  pub marked_blank : {parts : List (List ℕ)} {k line : ℕ} {part : List ℕ} {left : List (ℕ × List ℕ)} {marks : List Bool} → HasMarked number item fault places parts k marks → IsNextLine parts k line part left → fault (filter_map item (take k parts)) line part ≡ None → item part ≡ None → HasMarked number item fault places parts (k + 1) marks
-  marked_blank {marks = marks} so next none blank = record {
-    are = subst (λ named. AreMarksOf number places named marks) (sym (passed_more item None next blank ∙ append-nil _)) so.are;
-    no_fault = no_fault_more so next none;
-  }
+      here : fault_at item fault parts k ≡ fault (filter_map item (take k parts)) line part
+      here = rw (next.number, next.here) refl
 
-  -- a line that names something
-  pub marked_more : {parts : List (List ℕ)} {k line : ℕ} {part : List ℕ} {left : List (ℕ × List ℕ)} {marks : List Bool} (x : X) → HasMarked number item fault places parts k marks → IsNextLine parts k line part left → fault (filter_map item (take k parts)) line part ≡ None → item part ≡ Some x → number x < length marks → HasMarked number item fault places parts (k + 1) (set marks (number x) true)
-  marked_more {marks = marks} x so next none is within = record {
-    are = subst (λ named. AreMarksOf number places named (set marks (number x) true)) (sym (passed_more item (Some x) next is)) (mark_one number places _ marks x so.are within);
-    no_fault = no_fault_more so next none;
-  }
+      -- which has a fault
+      pub marked_fault : (e : E) → ((named : List X) → AreMarksOf number places named marks → Err e ≡ fault_or (fault named line part) (item part)) → first_fault_of item fault parts ≡ Some e
+      marked_fault e says =
+          first_some (fault_at item fault parts) k (length parts) e next.within so.no_fault (here ∙ fault_or_err _ _ _ (says _ so.are))
 
-  -- a line with a fault
-  pub marked_fault : (parts : List (List ℕ)) {k line : ℕ} {part : List ℕ} {left : List (ℕ × List ℕ)} {marks : List Bool} (e : E) → HasMarked number item fault places parts k marks → IsNextLine parts k line part left → fault (filter_map item (take k parts)) line part ≡ Some e → first_fault_of item fault parts ≡ Some e
-  marked_fault parts {k = k} e so next is =
-      first_some (fault_at item fault parts) k (length parts) e next.within so.no_fault (here item fault next ∙ is)
+      -- which has no fault, and names this, if anything
+      module _ {o : Option X} (says : (named : List X) → AreMarksOf number places named marks → Ok o ≡ fault_or (fault named line part) (item part)) where
+        answer : (fault (filter_map item (take k parts)) line part ≡ None) × (o ≡ item part)
+        answer = fault_or_ok (fault (filter_map item (take k parts)) line part) (item part) o (says _ so.are)
 
-  -- all lines have passed
-  pub marked_all : (parts : List (List ℕ)) {k : ℕ} {marks : List Bool} → HasMarked number item fault places parts k marks → k ≤ length parts → length parts ≤ k → (first_fault_of item fault parts ≡ None) × AreMarksOf number places (filter_map item parts) marks
-  marked_all parts {k = k} {marks = marks} so within past =
-      let all : k ≡ length parts = omega arith in (
-        subst (λ n. first (fault_at item fault parts) n ≡ None) all so.no_fault,
-        subst (λ ps. AreMarksOf number places (filter_map item ps) marks) (take_all k parts past) so.are,
-      )
+        no_fault_more : first (fault_at item fault parts) (k + 1) ≡ None
+        no_fault_more = rw add-one (first_none_more (fault_at item fault parts) k so.no_fault (here ∙ answer.0))
+
+        -- what lines name so far
+        pub passed_more : (p : Option X) → o ≡ p → filter_map item (take (k + 1) parts) ≡ filter_map item (take k parts) ++ cons_option p []
+        passed_more p is =
+            items_more item parts k next.within ∙ ap (λ p. filter_map item (take k parts) ++ cons_option p []) (ap item (sym next.here) ∙ sym answer.1 ∙ is)
+
+        pub marked_blank : o ≡ None → HasMarked number item fault places parts (k + 1) later marks
+        marked_blank blank = record {
+          within = omega (arith, next.within);
+          left = next.rest;
+          are = subst (λ named. AreMarksOf number places named marks) (sym (passed_more None blank ∙ append-nil _)) so.are;
+          no_fault = no_fault_more;
+        }
+
+        pub marked_more : (x : X) → o ≡ Some x → number x < length marks → HasMarked number item fault places parts (k + 1) later (set marks (number x) true)
+        marked_more x is within = record {
+          within = omega (arith, next.within);
+          left = next.rest;
+          are = subst (λ named. AreMarksOf number places named (set marks (number x) true)) (sym (passed_more (Some x) is)) (mark_one number places _ marks x so.are within);
+          no_fault = no_fault_more;
+        }
 
 -- ---- what lines name
 

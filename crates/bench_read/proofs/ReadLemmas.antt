@@ -1,6 +1,6 @@
 -- What a text reads as: the netlist of its lines, where it has no fault.
-use Rattle.std.proofs.Common.{Bool, ◌≡◌, ◌⊎◌, ℕ, true, false, not, List, [], ◌∷◌, Option, Some, None, Result, Ok, Err, sym, ap, ◌∙◌, refl, inl, inr, bytes_eq}
-use Rattle.std.specs.Prelude.{◌↔◌, All, MatchResult}
+use Rattle.std.proofs.Common.{Bool, ◌≡◌, ◌⊎◌, ℕ, true, false, not, List, [], ◌∷◌, Some, None, Result, Ok, Err, sym, ap, ◌∙◌, refl, bytes_eq}
+use Rattle.std.specs.Prelude.{◌↔◌, All}
 use Rattle.bench_read.proofs.Common.{list_any, find, option_map, option_or, All-nil, All-cons, All-head, All-tail, All-map, All-weaker, list_any_none, all_of_map, list_any-map, find_none, any_not_none, mapped_none}
 use Rattle.bench_read.proofs.Common.{Answers, or_none, Row, rows_of, Netlist, BenchNo, Line, all_driven, all_used, Say, Placed, Named, lines_at, placed_of, drivers_of, uses_of, netlist_of}
 use Rattle.std.proofs.lemmas.Bool.{not-false, or_parts}
@@ -8,6 +8,7 @@ use Rattle.bench_text.specs.Tokens.{first_fault as byte_fault}
 use Rattle.bench_read.specs.declared.refusal.BenchNo.TheVariants.{Undriven, Memory}
 use Rattle.bench_read.specs.Faults.{is_undriven, rows_fault, uses_fault, of_text, first_fault}
 use Rattle.bench_read.specs.Reads.{AreAmong, Reads}
+use Rattle.bench_read.proofs.OnlyLemmas.{value_or_fault}
 use Rattle.bench_read.proofs.SaidLemmas.{said_from_says}
 use Rattle.bench_read.proofs.TwiceLemmas.{names_in}
 use Rattle.bench_read.proofs.RowLemmas.{names_driven, names_used, SaysOne, rows_none}
@@ -91,10 +92,7 @@ no_fault_from_reads text net reads = ((reads_where text net).0 reads).0
 
 -- each text reads as a netlist or has a fault
 pub reads_or_fault : (text : List ℕ) → ((net : Netlist) × Reads text net) ⊎ ((why : BenchNo) × (first_fault text ≡ Some why))
-reads_or_fault text = by_fault (first_fault text) refl where
-  by_fault : (o : Option BenchNo) → first_fault text ≡ o → ((net : Netlist) × Reads text net) ⊎ ((why : BenchNo) × (first_fault text ≡ Some why))
-  by_fault None none = inl (_, (reads_where text _).1 (none, refl))
-  by_fault (Some why) is = inr (why, is)
+reads_or_fault text = value_or_fault (Reads text) (first_fault text) _ (λ none. (reads_where text _).1 (none, refl))
 
 -- ---- answers
 
@@ -102,9 +100,3 @@ reads_or_fault text = by_fault (first_fault text) refl where
 pub reads_from : (text : List ℕ) (r : Result Netlist BenchNo) → Answers Memory r (first_fault text) (λ net. net ≡ netlist_of (lines_at (placed_of (rows_of text)))) → Answers Memory r (first_fault text) (Reads text)
 reads_from text (Ok net) a = (a.0, (reads_where text net).1 a)
 reads_from text (Err e) a = a
-
--- what the text reads as is what was read
-pub only_from : (text : List ℕ) (r : Result Netlist BenchNo) → Answers Memory r (first_fault text) (Reads text) → (net : Netlist) → Reads text net → (first_fault text ≡ None) × MatchResult r (λ read. read ≡ net) (λ e. e ≡ Memory)
-only_from text (Ok read) a net reads = (a.0, one_netlist text read net a.1 reads)
-only_from text (Err e) (inl memory) net reads = (no_fault_from_reads text net reads, memory)
-only_from text (Err e) (inr fault) net reads = cc (no_fault_from_reads text net reads)

@@ -18,6 +18,7 @@ use Rattle.bench_read.specs.GateLists.{is_name, names_in}
 use Rattle.bench_read.specs.Once.{is_among}
 use Rattle.bench_read.specs.code.StuckLists.{AreStuckMarks}
 use Rattle.bench_read.specs.StuckLists.{value_of, value_in, value_after, signal_named, stuck_at, stuck_by, stuck_of, stuck_in, Reads, bit_of, number_of, stuck_fault, value_fault, words_fault, fault_of, first_fault}
+use Rattle.bench_read.proofs.OnlyLemmas.{value_or_fault}
 use Rattle.bench_read.proofs.OnceLemmas.{IsFine, Differ, named_hold, once_from_none, none_from_once}
 
 -- ---- one line
@@ -46,12 +47,10 @@ unfolding fault_of stuck_of
 fine_from_none net named line part none = fine_words net named line (words_of part) none
 
 none_value : (named : List Fault) (line : ℕ) (signal : Option ℕ) (value : Option V4) (stuck : Fault) → stuck_at signal value ≡ Some stuck → is_among number_of named stuck ≡ false → value_fault named line signal value ≡ None
-none_value named line None None stuck is new = cc
-none_value named line None (Some v) stuck is new = cc
-none_value named line (Some s) None stuck is new = cc
 none_value named line (Some s) (Some v) stuck is new =
     let same : record { signal = s; value = v } ≡ stuck = cc in
     cond-false (is_among number_of named (record { signal = s; value = v })) _ _ (ap (is_among number_of named) same ∙ new)
+none_value named line signal value stuck is new = cc
 
 none_words : (net : Netlist) (named : List Fault) (line : ℕ) (stuck : Fault) (words : List (List ℕ)) → stuck_by net words ≡ Some stuck → is_among number_of named stuck ≡ false → words_fault net named line words ≡ None
 none_words net named line stuck [] is new = cc
@@ -100,12 +99,10 @@ signal_within net name s is =
     omega (arith, (position-Some (bytes_eq name) (names_in net) s [] is).0, length-map net.signals (λ (signal : Signal). signal.name))
 
 stuck_is : (net : Netlist) (signal : Option ℕ) (value : Option V4) (stuck : Fault) → ((s : ℕ) → signal ≡ Some s → s < length net.signals) → ((v : V4) → value ≡ Some v → IsKnown v) → stuck_at signal value ≡ Some stuck → IsFault net stuck
-stuck_is net None None stuck within known is = cc
-stuck_is net None (Some v) stuck within known is = cc
-stuck_is net (Some s) None stuck within known is = cc
 stuck_is net (Some s) (Some v) stuck within known is =
     let same : record { signal = s; value = v } ≡ stuck = cc in
     subst (IsFault net) same (record { signal = within s refl; value = known v refl })
+stuck_is net signal value stuck within known is = cc
 
 words_are : (net : Netlist) (words : List (List ℕ)) (stuck : Fault) → stuck_by net words ≡ Some stuck → IsFault net stuck
 words_are net [] stuck is = cc
@@ -196,7 +193,4 @@ one_list net text faults other reads reads_other = reads.are ∙ sym reads_other
 
 -- each text reads as a list of stuck faults, or it has a first fault
 pub reads_or_fault : (net : Netlist) (text : List ℕ) → ((faults : List Fault) × Reads net text faults) ⊎ ((why : FaultNo) × (first_fault net text ≡ Some why))
-reads_or_fault net text = value_or_fault (first_fault net text) refl where
-  value_or_fault : (fault : Option FaultNo) → first_fault net text ≡ fault → ((faults : List Fault) × Reads net text faults) ⊎ ((why : FaultNo) × (first_fault net text ≡ Some why))
-  value_or_fault None is = inl (stuck_in net (parts_of text), reads_from_none net text _ is refl)
-  value_or_fault (Some why) is = inr (why, is)
+reads_or_fault net text = value_or_fault (Reads net text) (first_fault net text) (stuck_in net (parts_of text)) (λ none. reads_from_none net text _ none refl)

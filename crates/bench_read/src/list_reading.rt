@@ -48,12 +48,8 @@ fn read_marks(alloc: Global, bytes: &[u8], net: &Netlist) -> Result<List<bool>, 
 {
     let mut marks = List::filled(alloc, false, net.signals.len())?;
     let names = signal_names(alloc, net)?;
-    let taken = mark_lines(bytes, net, &names, &mut marks);
-    drop(names);
-    match taken {
-        Ok(()) => Ok(marks),
-        Err(no) => Err(no),
-    }
+    mark_lines(bytes, net, &names, &mut marks)?;
+    Ok(marks)
 }
 
 /// Marks the gates that the text names, or answers the fault of its first line that has one.
@@ -84,13 +80,8 @@ pub(crate) fn signal_names(alloc: Global, net: &Netlist) -> Result<Names<'_>, Me
     ensures { IfOk result (λ names. names ≡ names_in net.now) }
 {
     let mut names = Names::new(alloc);
-    match add_names(net.signals.as_slice(), &mut names) {
-        Ok(()) => Ok(names),
-        Err(no) => {
-            drop(names);
-            Err(no)
-        }
-    }
+    add_names(net.signals.as_slice(), &mut names)?;
+    Ok(names)
 }
 
 /// Adds the names of the signals, in signal order, to no names.

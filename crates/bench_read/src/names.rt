@@ -37,10 +37,7 @@ impl<'a> Names<'a> {
         ensures is_new { IfOk result (λ is_new. is_new ≡ not (list_any (bytes_eq name.now) self.old)) }
         ensures added { IfOk result (λ is_new. self.new ≡ (if is_new then self.old ++ name.now ∷ [] else self.old)) }
     {
-        match self.set.insert(name) {
-            Ok(is_new) => Ok(is_new),
-            Err(_) => Err(Memory),
-        }
+        Ok(self.set.insert(name)?)
     }
 
     /// The number of a name.

@@ -1,12 +1,11 @@
 //! The netlist that the lines of a draft make.
 
-ghost use Rattle.std.specs.Prelude.{◌≡◌, ◌+◌, ◌<◌, ◌^◌, [], ◌∷◌, ◌++◌, map, take, drop, length, slice_index, OnOk};
-ghost use Rattle.std.specs.List.{flat_map, range_with_len};
+ghost use Rattle.std.specs.Prelude.{◌≡◌, ◌+◌, ◌<◌, ◌^◌, [], ◌∷◌, ◌++◌, map, drop, length, slice_index, OnOk};
+ghost use Rattle.std.specs.List.{flat_map};
 ghost use Rattle.text_lines.specs.Answers.{Answers};
 ghost use Rattle.bench_read.specs.declared.refusal.BenchNo.TheVariants.{Memory as NoMemory};
 ghost use Rattle.bench_read.specs.Faults.{uses_fault};
-ghost use Rattle.bench_read.specs.Lines.{used};
-ghost use Rattle.bench_read.specs.code.Making.{seen, with_line, with_signal, with_memory};
+ghost use Rattle.bench_read.specs.code.Making.{seen, with_line, with_memory};
 ghost use Rattle.bench_read.specs.Netlists.{input_names, other_names, names_of, numbers, input_signal, bit_signals, netlist_of};
 ghost use Rattle.bench_read.specs.code.Drafting.{IsWhole, used_names, placed_in, lines_in};
 
@@ -28,13 +27,8 @@ pub fn make_netlist(alloc: Global, draft: &Draft) -> Result<Netlist, BenchNo>
         printed: List::new(alloc),
         blocks: List::new(alloc),
     };
-    match fill_netlist(alloc, draft, &mut net) {
-        Ok(()) => Ok(net),
-        Err(no) => {
-            drop(net);
-            Err(no)
-        }
-    }
+    fill_netlist(alloc, draft, &mut net)?;
+    Ok(net)
 }
 
 /// Adds all that the lines make to an empty netlist, or answers the refusal of the first use that no line drives.
@@ -47,12 +41,8 @@ fn fill_netlist(alloc: Global, draft: &Draft, net: &mut Netlist) -> Result<(), B
 {
     add_inputs(alloc, draft, &mut net.signals)?;
     let order = signal_numbers(alloc, draft, net.signals.len())?;
-    let uses = number_uses(alloc, draft, order.as_slice());
-    drop(order);
-    let uses = uses?;
-    let added = add_lines(alloc, draft, net, uses.as_slice());
-    drop(uses);
-    added?;
+    let uses = number_uses(alloc, draft, order.as_slice())?;
+    add_lines(alloc, draft, net, uses.as_slice())?;
     Ok(())
 }
 
@@ -119,16 +109,9 @@ fn push_signal(
 ) -> Result<(), Memory>
     ensures { OnOk result (signals.new ≡ signals.old ++ record { name = name.now; driver = driver } ∷ []) }
 {
-    match Text::from_bytes(alloc, name) {
-        Ok(name) => {
-            signals.push(Signal { name, driver })?;
-            Ok(())
-        }
-        Err(no) => {
-            drop(driver);
-            Err(no)
-        }
-    }
+    let name = Text::from_bytes(alloc, name)?;
+    signals.push(Signal { name, driver })?;
+    Ok(())
 }
 
 /// Adds a memory of so many address bits, and the signals that it drives.

@@ -49,9 +49,7 @@ fn read_text(alloc: Global, bytes: &[u8]) -> Result<Netlist, BenchNo>
 {
     check_bytes(bytes)?;
     let draft = read_rows(alloc, bytes)?;
-    let net = make_netlist(alloc, &draft);
-    drop(draft);
-    net
+    make_netlist(alloc, &draft)
 }
 
 /// Refuses the first fault of the bytes.
@@ -59,8 +57,5 @@ fn check_bytes(bytes: &[u8]) -> Result<(), BenchNo>
     requires { length bytes.now ≤ MAX_TEXT_BYTES }
     ensures { MatchResult result (λ _. byte_fault bytes.now ≡ None) (λ no. option_map of_text (byte_fault bytes.now) ≡ Some no) }
 {
-    match check(bytes) {
-        Ok(()) => Ok(()),
-        Err(no) => Err(of_text(no)),
-    }
+    check(bytes).map_err(of_text)
 }

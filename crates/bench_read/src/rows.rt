@@ -29,13 +29,8 @@ pub fn read_rows<'a>(alloc: Global, text: &'a [u8]) -> Result<Draft<'a>, BenchNo
     ensures { Answers NoMemory result (rows_fault (rows_of text.now)) (IsDraftOf (rows_of text.now)) }
 {
     let mut draft = Draft::new(alloc);
-    match read_lines(alloc, text, &mut draft) {
-        Ok(()) => Ok(draft),
-        Err(no) => {
-            drop(draft);
-            Err(no)
-        }
-    }
+    read_lines(alloc, text, &mut draft)?;
+    Ok(draft)
 }
 
 /// Adds what the lines of the text say to a draft of no lines, or answers the fault of the first line that has one.
@@ -84,15 +79,13 @@ fn read_row<'a>(
 {
     let mut outs = List::new(alloc);
     let (act, name) = read_act(at, part, &mut outs, &mut draft.uses)?;
-    let driven = drive(
+    drive(
         alloc,
         at,
         driven_by(act, &[name], outs.as_slice()),
         &mut draft.names,
         &mut draft.drivers,
-    );
-    drop(outs);
-    driven?;
+    )?;
     draft.operands += operands_by(act);
     check_limits(at, draft.drivers.len(), draft.operands)?;
     draft.statements.push(Statement { act, at })?;
@@ -127,18 +120,8 @@ fn name_in(head: Head) -> &[u8]
     ensures { result.now ≡ name_in head.entry }
 {
     match head {
-        Head::Port { word: _, name } => name,
-        Head::Gate {
-            name,
-            word: _,
-            uses: _,
-        } => name,
-        Head::Memory {
-            word: _,
-            outs: _,
-            address: _,
-            words: _,
-        } => &[],
+        Head::Port { name, .. } | Head::Gate { name, .. } => name,
+        Head::Memory { .. } => &[],
     }
 }
 
@@ -161,11 +144,7 @@ fn driven_by<'s, 'a>(act: Act, one: &'s [&'a [u8]], outs: &'s [&'a [u8]]) -> &'s
 {
     match act {
         Act::Output => &[],
-        Act::Memory {
-            outs: _,
-            address: _,
-            words: _,
-        } => outs,
+        Act::Memory { .. } => outs,
         _ => one,
     }
 }
@@ -176,13 +155,9 @@ fn operands_by(act: Act) -> usize
 {
     match act {
         Act::Input | Act::Output => 0,
-        Act::Gate { kind: _, uses } => uses as usize,
+        Act::Gate { uses, .. } => uses as usize,
         Act::Register => 1,
-        Act::Memory {
-            outs: _,
-            address,
-            words,
-        } => 1 + (address as usize + words as usize),
+        Act::Memory { address, words, .. } => 1 + (address as usize + words as usize),
     }
 }
 

@@ -15,12 +15,8 @@ pub fn say(at: u32, head: Head) -> Result<Act, BenchNo>
     ensures { result ≡ act_by_head at head.entry }
 {
     match head {
-        Head::Port { word, name: _ } => port_act(at, word),
-        Head::Gate {
-            name: _,
-            word,
-            uses,
-        } => gate_act(at, word, uses),
+        Head::Port { word, .. } => port_act(at, word),
+        Head::Gate { word, uses, .. } => gate_act(at, word, uses),
         Head::Memory {
             word,
             outs,

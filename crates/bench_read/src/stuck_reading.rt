@@ -37,12 +37,7 @@ pub fn read_faults(alloc: Global, bytes: &[u8], net: &Netlist) -> Result<List<Fa
         → (first_fault net.now bytes.now ≡ None) × MatchResult result (λ read. read ≡ faults) (λ e. e ≡ NoMemory) }
 {
     let names = signal_names(alloc, net)?;
-    let taken = read_lines(alloc, bytes, net, &names);
-    drop(names);
-    match taken {
-        Ok(faults) => Ok(faults),
-        Err(no) => Err(no),
-    }
+    read_lines(alloc, bytes, net, &names)
 }
 
 /// The stuck faults that the lines name, or the fault of the first line that has one.

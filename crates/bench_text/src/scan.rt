@@ -35,13 +35,9 @@ pub fn tokens(alloc: Global, bytes: &[u8]) -> Result<Tokens, TextNo>
     let mut list = List::new(alloc);
     let mut scan = Scan::START;
     for i in 0..bytes.len() {
-        match step(bytes, i, scan) {
-            Ok(next) => {
-                add_token(&mut list, token_at_place(bytes, i, scan))?;
-                scan = next;
-            }
-            Err(no) => return Err(no),
-        }
+        let next = step(bytes, i, scan)?;
+        add_token(&mut list, token_at_place(bytes, i, scan))?;
+        scan = next;
     }
     Ok(Tokens { list })
 }
@@ -65,13 +61,9 @@ pub fn check(bytes: &[u8]) -> Result<(), TextNo>
     let mut scan = Scan::START;
     let mut i = 0;
     'places: while i < bytes.len() {
-        match pass(bytes, i, scan) {
-            Ok((len, next)) => {
-                i += len;
-                scan = next;
-            }
-            Err(no) => return Err(no),
-        }
+        let (len, next) = pass(bytes, i, scan)?;
+        i += len;
+        scan = next;
     }
     Ok(())
 }
@@ -125,10 +117,7 @@ fn pass(bytes: &[u8], i: usize, scan: Scan) -> Result<(usize, Scan), TextNo>
     if let Class::Name = class_of(bytes[i]) {
         return pass_name(bytes, i, scan);
     }
-    match step(bytes, i, scan) {
-        Ok(next) => Ok((1, next)),
-        Err(no) => Err(no),
-    }
+    Ok((1, step(bytes, i, scan)?))
 }
 
 /// The same where a byte of a name stands.

@@ -5,7 +5,7 @@ use Rattle.std.proofs.lemmas.List.Sums.{sum_by-append}
 use Rattle.std.proofs.lemmas.Bool.{and_parts}
 use Rattle.limits.specs.declared.TheConstants.{MAX_FUNCTIONS, MAX_ARRAY_BITS, MAX_ARRAY}
 use Rattle.image_defs.specs.declared.image.Work.{Work}
-use Rattle.image_defs.specs.declared.image.Work.TheVariants.{Logic, Array, Host}
+use Rattle.image_defs.specs.declared.image.Work.TheVariants.{Logic}
 use Rattle.image_defs.specs.declared.image.PortImage.{PortImage}
 use Rattle.image_defs.specs.Places.{item_slots}
 use Rattle.image_defs.specs.declared.file.PortClaims.{PortClaims}
@@ -57,15 +57,6 @@ by_work o said held may room =
 
 pub port_step : (o : OpenPort) (said : Line) → IsHeld o.port.work o.items o.bits → port_allows o.port said ≡ true → work_holds o.port.work o.bits said ≡ true
     → PortStep o (open_with o said) said
-port_step o line.Version held may room = by_work o line.Version held may room
-port_step o (line.Head sizes) held may room = by_work o (line.Head sizes) held may room
-port_step o (line.Port kind) held may room = by_work o (line.Port kind) held may room
-port_step o (line.Table table) held may room = by_work o (line.Table table) held may room
-port_step o (line.Work task item) held may room = by_work o (line.Work task item) held may room
-port_step o (line.Block block) held may room = by_work o (line.Block block) held may room
-port_step o (line.Bit bit item) held may room = by_work o (line.Bit bit item) held may room
-port_step o (line.Input input item) held may room = by_work o (line.Input input item) held may room
-port_step o (line.Print source) held may room = by_work o (line.Print source) held may room
 port_step o (line.Send link) held may room =
     let none = nil_of o.port.ins may in record {
       lines =
@@ -82,7 +73,7 @@ port_step o (line.Take link) held may room = record {
   held = held;
   kind = refl;
 }
-port_step o line.End held may room = by_work o line.End held may room
+port_step o said held may room = by_work o said held may room
 
 -- ---- the whole
 
@@ -146,13 +137,11 @@ pub record DraftStep (draft after : Draft) (said : Line) : Type 0 where
 
 opened_lines : (kind : PortKind) → port_lines (opened kind).port (opened kind).items ≡ line.Port kind ∷ []
 opened_lines kinds.Logic = refl
-opened_lines kinds.Array = refl
-opened_lines kinds.Host = refl
+opened_lines other = refl
 
 opened_held : (kind : PortKind) → IsHeld (opened kind).port.work (opened kind).items (opened kind).bits
 opened_held kinds.Logic = record { claims = refl; bits_are = refl; few_bits = omega arith; few_tables = omega arith }
-opened_held kinds.Array = record { claims = refl; bits_are = refl; few_bits = omega arith; few_tables = omega arith }
-opened_held kinds.Host = record { claims = refl; bits_are = refl; few_bits = omega arith; few_tables = omega arith }
+opened_held other = record { claims = refl; bits_are = refl; few_bits = omega arith; few_tables = omega arith }
 
 -- the port that is being read has all its lines
 all_closed : (body : Body) → IsGoodBody body → AreClosed (ports_of body) (claims_of body)
@@ -204,8 +193,7 @@ ended body good may = record {
 
 array_kind : (work : Work) → is_array work ≡ is_array (work_begun (kind_of work))
 array_kind (Logic tables tasks) = refl
-array_kind (Array blocks outs) = refl
-array_kind (Host inputs printed) = refl
+array_kind other = refl
 
 same_port : (body : Body) (after : OpenPort) (said : Line) → IsGoodBody body → PortStep body.current after said
     → DraftStep (Within body) (Within (record body { current = after })) said
@@ -226,18 +214,9 @@ same_port body after said good step = record {
 }
 
 body_step : (body : Body) (said : Line) → IsGoodBody body → body_allows body said ≡ true → body_holds body said ≡ true → DraftStep (Within body) (body_with body said) said
-body_step body line.Version good may room = same_port body (open_with body.current line.Version) line.Version good (port_step body.current line.Version good.current may room)
-body_step body (line.Head sizes) good may room = same_port body (open_with body.current (line.Head sizes)) (line.Head sizes) good (port_step body.current (line.Head sizes) good.current may room)
 body_step body (line.Port kind) good may room = next_port body kind good room
-body_step body (line.Table table) good may room = same_port body (open_with body.current (line.Table table)) (line.Table table) good (port_step body.current (line.Table table) good.current may room)
-body_step body (line.Work task item) good may room = same_port body (open_with body.current (line.Work task item)) (line.Work task item) good (port_step body.current (line.Work task item) good.current may room)
-body_step body (line.Block block) good may room = same_port body (open_with body.current (line.Block block)) (line.Block block) good (port_step body.current (line.Block block) good.current may room)
-body_step body (line.Bit bit item) good may room = same_port body (open_with body.current (line.Bit bit item)) (line.Bit bit item) good (port_step body.current (line.Bit bit item) good.current may room)
-body_step body (line.Input input item) good may room = same_port body (open_with body.current (line.Input input item)) (line.Input input item) good (port_step body.current (line.Input input item) good.current may room)
-body_step body (line.Print source) good may room = same_port body (open_with body.current (line.Print source)) (line.Print source) good (port_step body.current (line.Print source) good.current may room)
-body_step body (line.Send link) good may room = same_port body (open_with body.current (line.Send link)) (line.Send link) good (port_step body.current (line.Send link) good.current may room)
-body_step body (line.Take link) good may room = same_port body (open_with body.current (line.Take link)) (line.Take link) good (port_step body.current (line.Take link) good.current may room)
 body_step body line.End good may room = ended body good may
+body_step body said good may room = same_port body (open_with body.current said) said good (port_step body.current said good.current may room)
 
 some_ports : (sizes : Sizes) → is_within (line.Head sizes) ≡ true → 1 ≤ sizes.ports
 some_ports sizes within = grind (arith, within)
@@ -245,31 +224,9 @@ some_ports sizes within = grind (arith, within)
 pub draft_step : (draft : Draft) (said : Line) → IsGood draft → is_within said ≡ true → may_stand draft said ≡ true → has_room draft said ≡ true
     → DraftStep draft (draft_with draft said) said
 draft_step Blank line.Version good within may room = record { lines = refl; good = tt }
-draft_step Blank (line.Head sizes) good within may room = cc
-draft_step Blank (line.Port kind) good within may room = cc
-draft_step Blank (line.Table table) good within may room = cc
-draft_step Blank (line.Work task item) good within may room = cc
-draft_step Blank (line.Block block) good within may room = cc
-draft_step Blank (line.Bit bit item) good within may room = cc
-draft_step Blank (line.Input input item) good within may room = cc
-draft_step Blank (line.Print source) good within may room = cc
-draft_step Blank (line.Send link) good within may room = cc
-draft_step Blank (line.Take link) good within may room = cc
-draft_step Blank line.End good within may room = cc
-draft_step Titled line.Version good within may room = cc
+draft_step Blank said good within may room = cc
 draft_step Titled (line.Head sizes) good within may room = record { lines = refl; good = some_ports sizes within }
-draft_step Titled (line.Port kind) good within may room = cc
-draft_step Titled (line.Table table) good within may room = cc
-draft_step Titled (line.Work task item) good within may room = cc
-draft_step Titled (line.Block block) good within may room = cc
-draft_step Titled (line.Bit bit item) good within may room = cc
-draft_step Titled (line.Input input item) good within may room = cc
-draft_step Titled (line.Print source) good within may room = cc
-draft_step Titled (line.Send link) good within may room = cc
-draft_step Titled (line.Take link) good within may room = cc
-draft_step Titled line.End good within may room = cc
-draft_step (Sized own) line.Version good within may room = cc
-draft_step (Sized own) (line.Head sizes) good within may room = cc
+draft_step Titled said good within may room = cc
 draft_step (Sized own) (line.Port kind) good within may room = record {
   lines = ap (λ (ls : List Line). line.Version ∷ line.Head own ∷ ls) (opened_lines kind);
   good = record {
@@ -279,14 +236,6 @@ draft_step (Sized own) (line.Port kind) good within may room = record {
     some_ports = good;
   };
 }
-draft_step (Sized own) (line.Table table) good within may room = cc
-draft_step (Sized own) (line.Work task item) good within may room = cc
-draft_step (Sized own) (line.Block block) good within may room = cc
-draft_step (Sized own) (line.Bit bit item) good within may room = cc
-draft_step (Sized own) (line.Input input item) good within may room = cc
-draft_step (Sized own) (line.Print source) good within may room = cc
-draft_step (Sized own) (line.Send link) good within may room = cc
-draft_step (Sized own) (line.Take link) good within may room = cc
-draft_step (Sized own) line.End good within may room = cc
+draft_step (Sized own) said good within may room = cc
 draft_step (Within body) said good within may room = body_step body said good may room
 draft_step (Ended file) said good within may room = cc

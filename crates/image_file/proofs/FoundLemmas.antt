@@ -1,5 +1,5 @@
 -- What is read is what the text is the text of.
-use Rattle.std.proofs.Common.{◌≡◌, ℕ, suc, ◌&&◌, Bool, true, false, List, [], ◌∷◌, ◌++◌, Result, Ok, Err, refl, sym, ap, ◌∙◌, subst, All, append-nil, append_assoc, if◌then◌else◌}
+use Rattle.std.proofs.Common.{◌≡◌, ℕ, suc, ◌&&◌, Bool, true, List, [], ◌∷◌, ◌++◌, Result, Ok, Err, refl, sym, ap, ◌∙◌, subst, All, append-nil, append_assoc, if◌then◌else◌}
 use Rattle.std.specs.List.{flat_map, join_with_byte}
 use Rattle.std.proofs.lemmas.Grind.{flat_map-append}
 use Rattle.std.proofs.lemmas.List.Elements.{All-nil, All-cons, All-append}
@@ -14,7 +14,7 @@ use Rattle.image_lines.proofs.lemmas.LawLemmas.{read_only}
 use Rattle.image_file.specs.declared.refusal.ImageNo.{ImageNo}
 use Rattle.image_file.specs.declared.refusal.ImageNo.TheVariants.{Syntax, Range}
 use Rattle.image_file.specs.declared.draft.Draft.{Draft}
-use Rattle.image_file.specs.declared.draft.Draft.TheVariants.{Blank, Titled, Sized, Within, Ended}
+use Rattle.image_file.specs.declared.draft.Draft.TheVariants.{Blank, Ended}
 use Rattle.image_file.specs.Drafts.{may_stand, has_room, draft_with}
 use Rattle.image_file.specs.Files.{image_text}
 use Rattle.image_file.specs.Ranges.{IsInRanges, Reads}
@@ -23,12 +23,9 @@ use Rattle.image_file.proofs.DraftLemmas.{IsGood, draft_lines, draft_step}
 use Rattle.image_file.proofs.RangeLemmas.{in_ranges}
 
 at_end_ok : (n : ℕ) (draft : Draft) (last : List ℕ) (file : ImageFile) → at_end n draft last ≡ Ok file → (draft ≡ Ended file) × (last ≡ [])
-at_end_ok n Blank last file e = cc
-at_end_ok n Titled last file e = cc
-at_end_ok n (Sized sizes) last file e = cc
-at_end_ok n (Within body) last file e = cc
 at_end_ok n (Ended other) [] file e = (cc, refl)
 at_end_ok n (Ended other) (byte ∷ last) file e = cc
+at_end_ok n draft last file e = cc
 
 then_ok : (r : Result Draft ImageNo) (next : Draft → Result ImageFile ImageNo) (file : ImageFile) → and_then r next ≡ Ok file
     → (after : Draft) × ((r ≡ Ok after) × (next after ≡ Ok file))
@@ -46,10 +43,8 @@ followed_ok n draft after said within e = of (may_stand draft said) within (has_
   where
     of : (may within room : Bool) → may_stand draft said ≡ may → has_room draft said ≡ room
         → (if may then (if within && room then Ok (draft_with draft said) else Err (Range n)) else Err (Syntax n)) ≡ Ok after → (within ≡ true) × Follows draft after said
-    of false within room may_is room_is e = cc
-    of true false room may_is room_is e = cc
-    of true true false may_is room_is e = cc
     of true true true may_is room_is e = (refl, record { may = may_is; room = room_is; is = cc })
+    of may within room may_is room_is e = cc
 
 line_ok : (n : ℕ) (draft after : Draft) (r : Result (Line × Bool) LineNo) → after_line n draft r ≡ Ok after → (said : Line) × ((r ≡ Ok (said, true)) × Follows draft after said)
 line_ok n draft after (Err why) e = cc

@@ -68,9 +68,6 @@ slots_more slot xs x = ap (λ (ns : List ℕ). length ns) (map-append slot xs (x
 
 pub work_step : (work : Work) (items : List ℕ) (bits : ℕ) (said : Line) → IsHeld work items bits → work_allows work said ≡ true → work_holds work bits said ≡ true
     → WorkStep work items bits said
-work_step (Logic tables tasks) items bits line.Version held may room = cc
-work_step (Logic tables tasks) items bits (line.Head sizes) held may room = cc
-work_step (Logic tables tasks) items bits (line.Port kind) held may room = cc
 work_step (Logic tables tasks) items bits (line.Table table) held may room =
     let none = nil_of tasks may in record {
       lines = rw none (ap (λ (ls : List Line). ls ++ []) (pushed line.Table tables table) ∙ append-nil (map line.Table tables ++ line.Table table ∷ []) ∙ ap (λ (ls : List Line). ls ++ line.Table table ∷ []) (sym (append-nil (map line.Table tables))));
@@ -83,18 +80,7 @@ work_step (Logic tables tasks) items bits (line.Work task item) held may room =
       held = more_held (Logic tables tasks) (Logic tables (tasks ++ task ∷ [])) items item bits held (slots_more task_slot tasks task) refl refl;
       kind = refl;
     }
-work_step (Logic tables tasks) items bits (line.Block block) held may room = cc
-work_step (Logic tables tasks) items bits (line.Bit bit item) held may room = cc
-work_step (Logic tables tasks) items bits (line.Input input item) held may room = cc
-work_step (Logic tables tasks) items bits (line.Print source) held may room = cc
-work_step (Logic tables tasks) items bits (line.Send link) held may room = cc
-work_step (Logic tables tasks) items bits (line.Take link) held may room = cc
-work_step (Logic tables tasks) items bits line.End held may room = cc
-work_step (Array blocks outs) items bits line.Version held may room = cc
-work_step (Array blocks outs) items bits (line.Head sizes) held may room = cc
-work_step (Array blocks outs) items bits (line.Port kind) held may room = cc
-work_step (Array blocks outs) items bits (line.Table table) held may room = cc
-work_step (Array blocks outs) items bits (line.Work task item) held may room = cc
+work_step (Logic tables tasks) items bits said held may room = cc
 work_step (Array blocks outs) items bits (line.Block block) held may room =
     let none = nil_of outs may in record {
       lines = rw none (ap (λ (ls : List Line). ls ++ []) (pushed line.Block blocks block) ∙ append-nil (map line.Block blocks ++ line.Block block ∷ []) ∙ ap (λ (ls : List Line). ls ++ line.Block block ∷ []) (sym (append-nil (map line.Block blocks))));
@@ -107,18 +93,7 @@ work_step (Array blocks outs) items bits (line.Bit bit item) held may room =
       held = more_held (Array blocks outs) (Array blocks (outs ++ bit ∷ [])) items item bits held (slots_more (λ out. out.slot) outs bit) refl refl;
       kind = refl;
     }
-work_step (Array blocks outs) items bits (line.Input input item) held may room = cc
-work_step (Array blocks outs) items bits (line.Print source) held may room = cc
-work_step (Array blocks outs) items bits (line.Send link) held may room = cc
-work_step (Array blocks outs) items bits (line.Take link) held may room = cc
-work_step (Array blocks outs) items bits line.End held may room = cc
-work_step (Host inputs printed) items bits line.Version held may room = cc
-work_step (Host inputs printed) items bits (line.Head sizes) held may room = cc
-work_step (Host inputs printed) items bits (line.Port kind) held may room = cc
-work_step (Host inputs printed) items bits (line.Table table) held may room = cc
-work_step (Host inputs printed) items bits (line.Work task item) held may room = cc
-work_step (Host inputs printed) items bits (line.Block block) held may room = cc
-work_step (Host inputs printed) items bits (line.Bit bit item) held may room = cc
+work_step (Array blocks outs) items bits said held may room = cc
 work_step (Host inputs printed) items bits (line.Input input item) held may room =
     let none = nil_of printed may in record {
       lines = rw none (append-nil (claimed line.Input (inputs ++ input ∷ []) (items ++ item ∷ [])) ∙ claimed_more line.Input inputs items input item (claims_of_map (λ input. input.slot) items inputs held.claims) ∙ ap (λ (ls : List Line). ls ++ line.Input input item ∷ []) (sym (append-nil (claimed line.Input inputs items))));
@@ -131,6 +106,4 @@ work_step (Host inputs printed) items bits (line.Print source) held may room =
       held = record { claims = held.claims; bits_are = held.bits_are; few_bits = held.few_bits; few_tables = held.few_tables };
       kind = refl;
     }
-work_step (Host inputs printed) items bits (line.Send link) held may room = cc
-work_step (Host inputs printed) items bits (line.Take link) held may room = cc
-work_step (Host inputs printed) items bits line.End held may room = cc
+work_step (Host inputs printed) items bits said held may room = cc

@@ -1,6 +1,15 @@
 -- Lines written one after the other.
-use Rattle.std.proofs.Common.{◌≡◌, ℕ, List, [], ◌∷◌, ◌++◌, map, refl, sym, ap, ap₂, ◌∙◌, ⊎_elim, ◌⊎◌, append-nil, append_assoc}
+use Rattle.std.proofs.Common.{◌≡◌, ℕ, List, [], ◌∷◌, ◌++◌, map, refl, sym, ap, ap₂, ◌∙◌, ⊎_elim, append-nil, append_assoc}
+use Rattle.std.proofs.iter.Yields.{fronts}
+use Rattle.std.proofs.lemmas.Iterator.{zips}
+use Rattle.std.proofs.lemmas.Slice.Zip.{Zip-more, either_empty_from_Zip}
+use Rattle.std.specs.Borrow.{Bor}
+use Rattle.std.specs.Iterator.Adapters.{zip_first, zip_second}
 use Rattle.std.specs.List.{flat_map, zip}
+use Rattle.std.specs.Prelude.{Option, Some, None}
+use Rattle.std.specs.Slice.Iter.{iter_rest}
+use Rattle.std.specs.declared.iter.Zip.{Zip}
+use Rattle.std.specs.declared.slice.Iter.{Iter}
 use Rattle.std.proofs.lemmas.Grind.{flat_map-append}
 use Rattle.std.proofs.lemmas.List.Folds.{flat_map-map}
 use Rattle.func_table.specs.declared.Table.{Table}
@@ -18,21 +27,27 @@ use Rattle.image_lines.specs.declared.line.Line.TheVariants as line
 use Rattle.image_lines.specs.Words.{line_text}
 use Rattle.image_file.specs.Files.{work_lines, port_lines, all_port_lines, kind_of, sizes_of, image_text}
 
--- pairs of two lists, each written as f says
-pub pair_more : {X Y : Type 0} (f : X × Y → List ℕ) (old text : List ℕ) (xs rest : List X) (ys others : List Y) (x : X) (y : Y)
-    → xs ≡ x ∷ rest → ys ≡ y ∷ others → old ++ flat_map f (zip xs ys) ≡ text → (old ++ f (x, y)) ++ flat_map f (zip rest others) ≡ text
-pair_more f old text xs rest ys others x y front other is =
-    append_assoc old (f (x, y)) (flat_map f (zip rest others)) ∙ (rw (front, other) at is)
-
 no_pairs : {X Y : Type 0} (xs : List X) (none : List Y) → none ≡ [] → zip xs none ≡ []
 no_pairs [] none is = refl
 no_pairs (x ∷ xs) [] is = refl
 no_pairs (x ∷ xs) (y ∷ ys) is = cc
 
-pub pairs_end : {X Y : Type 0} (f : X × Y → List ℕ) (old text : List ℕ) (xs : List X) (ys : List Y)
-    → (xs ≡ []) ⊎ (ys ≡ []) → old ++ flat_map f (zip xs ys) ≡ text → old ≡ text
-pairs_end f old text xs ys none is =
-    sym (append-nil old) ∙ ap (λ ps. old ++ flat_map f ps) (sym (⊎_elim (λ e. ap (λ zs. zip zs ys) e) (λ e. no_pairs xs ys e) none)) ∙ is
+-- what is written, before what f says of the pairs that are left, is what it says of all, behind the text before
+abbrev pub WritesOn : {X Y : Type 0} → (X × Y → List ℕ) → List ℕ → List X → List Y → Zip (Iter X) (Iter Y) → List ℕ → Type 0
+WritesOn f old xs ys left text = text ++ flat_map f (zip (iter_rest (zip_first left)) (iter_rest (zip_second left))) ≡ old ++ flat_map f (zip xs ys)
+
+module _ {X Y : Type 0} (f : X × Y → List ℕ) (text : List ℕ) (left later : Zip (Iter X) (Iter Y)) (next : Option (Bor X × Bor Y)) (steps : zips fronts fronts left next later) (whole : List ℕ) (so : text ++ flat_map f (zip (iter_rest (zip_first left)) (iter_rest (zip_second left))) ≡ whole) where
+  pub pair_more : (p : Bor X × Bor Y) → next ≡ Some p → (text ++ f (p.0.now, p.1.now)) ++ flat_map f (zip (iter_rest (zip_first later)) (iter_rest (zip_second later))) ≡ whole
+  pair_more p is =
+      let more = Zip-more left later next p is steps in
+      append_assoc text (f (p.0.now, p.1.now)) (flat_map f (zip (iter_rest (zip_first later)) (iter_rest (zip_second later)))) ∙ (rw (more.0, more.1) at so)
+
+  pub pairs_end : next ≡ None → text ≡ whole
+  pairs_end is =
+      let firsts = iter_rest (zip_first left) in
+      let seconds = iter_rest (zip_second left) in
+      let none = ⊎_elim (λ e. ap (λ zs. zip zs seconds) e) (λ e. no_pairs firsts seconds e) (either_empty_from_Zip left later next is steps) in
+      sym (append-nil text) ∙ ap (λ ps. text ++ flat_map f ps) (sym none) ∙ so
 
 -- lines of two kinds
 both_texts : {A B : Type 0} (f : A → Line) (g : B → Line) (old : List ℕ) (xs : List A) (ys : List B)

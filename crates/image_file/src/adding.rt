@@ -179,15 +179,9 @@ fn push_port(
     ensures ports { OnOk result (ports.new ≡ ports.old ++ read.port ∷ []) }
     ensures claims { OnOk result (claims.new ≡ claims.old ++ record { items = read.items } ∷ []) }
 {
-    let OpenPort {
-        port,
-        items,
-        bits: _,
-    } = read;
-    match ports.push(port) {
-        Ok(()) => claims.push(PortClaims { items }),
-        Err(no) => Err(no),
-    }
+    let OpenPort { port, items, .. } = read;
+    ports.push(port)?;
+    claims.push(PortClaims { items })
 }
 
 fn same_port(mut body: Body, said: Line) -> Result<Draft, Memory>
@@ -244,9 +238,9 @@ fn push_item(items: &mut List<u32>, said: &Line) -> Result<(), Memory>
     ensures { OnOk result (items.new ≡ drafts.items_with items.old said.now) }
 {
     match said {
-        Line::Work { task: _, item } => items.push(*item),
-        Line::Bit { bit: _, item } => items.push(*item),
-        Line::Input { input: _, item } => items.push(*item),
+        Line::Work { item, .. } | Line::Bit { item, .. } | Line::Input { item, .. } => {
+            items.push(*item)
+        }
         _ => Ok(()),
     }
 }
@@ -276,11 +270,8 @@ fn logic_with(tables: &mut List<Table>, tasks: &mut List<Task>, said: Line) -> R
 {
     match said {
         Line::Table(table) => tables.push(table),
-        Line::Work { task, item: _ } => tasks.push(task),
-        other => {
-            drop(other);
-            Ok(())
-        }
+        Line::Work { task, .. } => tasks.push(task),
+        _ => Ok(()),
     }
 }
 
@@ -293,11 +284,8 @@ fn array_with(
 {
     match said {
         Line::Block(block) => blocks.push(block),
-        Line::Bit { bit, item: _ } => outs.push(bit),
-        other => {
-            drop(other);
-            Ok(())
-        }
+        Line::Bit { bit, .. } => outs.push(bit),
+        _ => Ok(()),
     }
 }
 
@@ -309,11 +297,8 @@ fn host_with(
     ensures { OnOk result (work.Host inputs.new printed.new ≡ drafts.work_with (work.Host inputs.old printed.old) said) }
 {
     match said {
-        Line::Input { input, item: _ } => inputs.push(input),
+        Line::Input { input, .. } => inputs.push(input),
         Line::Print(source) => printed.push(source),
-        other => {
-            drop(other);
-            Ok(())
-        }
+        _ => Ok(()),
     }
 }

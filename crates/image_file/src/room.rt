@@ -79,7 +79,7 @@ fn table_count(work: &Work) -> usize
     ensures { result ≡ length (ranges.tables_of work.now) }
 {
     match work {
-        Work::Logic { tables, tasks: _ } => tables.len(),
+        Work::Logic { tables, .. } => tables.len(),
         Work::Array { .. } | Work::Host { .. } => 0,
     }
 }

@@ -45,21 +45,21 @@ fn work_allows(work: &Work, line: &Line) -> bool
     ensures { result ≡ drafts.work_allows work.now line.now }
 {
     match work {
-        Work::Logic { tables: _, tasks } => {
+        Work::Logic { tasks, .. } => {
             match line {
                 Line::Table(_) => tasks.len() == 0,
                 Line::Work { .. } => true,
                 _ => false,
             }
         }
-        Work::Array { blocks: _, outs } => {
+        Work::Array { outs, .. } => {
             match line {
                 Line::Block(_) => outs.len() == 0,
                 Line::Bit { .. } => true,
                 _ => false,
             }
         }
-        Work::Host { inputs: _, printed } => {
+        Work::Host { printed, .. } => {
             match line {
                 Line::Input { .. } => printed.len() == 0,
                 Line::Print(_) => true,

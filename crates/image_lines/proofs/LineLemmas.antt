@@ -41,18 +41,7 @@ word_of word.End = codes "end"
 pub named_again : (w : Word) → named (word_of w) ≡ Some w
 unfolding named word_of
 named_again word.Version = refl
-named_again word.Slots = refl
-named_again word.Port = refl
-named_again word.Table = refl
-named_again word.Eval = refl
-named_again word.Hold = refl
-named_again word.Block = refl
-named_again word.Out = refl
-named_again word.In = refl
-named_again word.Print = refl
-named_again word.Send = refl
-named_again word.Take = refl
-named_again word.End = refl
+named_again other = refl
 
 one_word : (token : List ℕ) (v w : Word) (others : Option Word) → (others ≡ Some w → token ≡ word_of w)
     → (if bytes_eq token (word_of v) then Some v else others) ≡ Some w → token ≡ word_of w

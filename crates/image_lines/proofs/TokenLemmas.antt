@@ -1,5 +1,5 @@
 -- Each token is spelled in one way.
-use Rattle.std.proofs.Common.{◌≡◌, ◌⊎◌, ◌∙◌, inl, inr, ℕ, suc, ◌+◌, ◌-◌, ◌*◌, ◌^◌, ◌<◌, ◌==◌, nat_lt, Bool, true, false, ◌&&◌, List, [], ◌∷◌, length, min, get_or, decimal, codes, refl, sym, ap, arith, rules, Option, Some, None, bytes_eq, if◌then◌else◌}
+use Rattle.std.proofs.Common.{◌≡◌, ◌⊎◌, ◌∙◌, inl, inr, ℕ, suc, ◌+◌, ◌-◌, ◌*◌, ◌^◌, ◌<◌, ◌==◌, nat_lt, Bool, true, false, ◌&&◌, List, [], ◌∷◌, length, min, get_or, decimal, refl, sym, ap, arith, rules, Option, Some, None, bytes_eq, if◌then◌else◌}
 use Rattle.std.specs.Option.{option_map}
 use Rattle.std.specs.List.{fold, list_all}
 use Rattle.std.specs.Char.{is_ascii_digit}
@@ -131,29 +131,20 @@ value_found : (letters : List ℕ) (v : V4) → value_letter letters ≡ Some v 
 value_found [] v e = cc
 value_found (c ∷ d ∷ rest) v e = cc
 value_found (c ∷ []) v e =
-    elim (if_or (c == 48) (Some v4.Zero) _ v e) [
-      | inl here ↦ of c 48 v4.Zero v here.0 here.1 refl
-      | inr later ↦ elim (if_or (c == 49) (Some v4.One) _ v later) [
-        | inl here ↦ of c 49 v4.One v here.0 here.1 refl
-        | inr later ↦ elim (if_or (c == 120) (Some v4.Undef) _ v later) [
-          | inl here ↦ of c 120 v4.Undef v here.0 here.1 refl
-          | inr later ↦
-              let last = if_some (c == 122) v4.HighZ v later in
-              of c 122 v4.HighZ v last.0 (ap Some last.1) refl
-        ]
-      ]
-    ]
+    letter_or 48 v4.Zero _ refl (letter_or 49 v4.One _ refl (letter_or 120 v4.Undef _ refl (letter_or 122 v4.HighZ None refl (λ none. cc)))) e
   where
-    of : (c k : ℕ) (w v : V4) → (c == k) ≡ true → Some w ≡ Some v → value_char w ≡ k → c ∷ [] ≡ value_char v ∷ []
-    of c k w v is same char =
-        let value : w ≡ v = cc in
-        ap (λ d. d ∷ []) (eqb-true c k is ∙ sym char ∙ ap value_char value)
+    letter_or : (k : ℕ) (w : V4) (others : Option V4) → value_char w ≡ k → (others ≡ Some v → c ∷ [] ≡ value_char v ∷ []) → (if c == k then Some w else others) ≡ Some v → c ∷ [] ≡ value_char v ∷ []
+    letter_or k w others char later e =
+        elim (if_or (c == k) (Some w) others v e) [
+          | inl here ↦
+              let value : w ≡ v = cc here.1 in
+              ap (λ d. d ∷ []) (eqb-true c k here.0 ∙ sym char ∙ ap value_char value)
+          | inr other ↦ later other
+        ]
 
 value_again : (v : V4) → value_letter (value_char v ∷ []) ≡ Some v
 value_again v4.Zero = refl
-value_again v4.One = refl
-value_again v4.Undef = refl
-value_again v4.HighZ = refl
+value_again other = refl
 
 pub source_spells : SpellsToken source_token source_word IsSmallSource
 unfolding source_token source_word
@@ -175,12 +166,17 @@ source_spells = record { again = again; found = found }
     moved : (t u : List ℕ) (y x : Source) → t ≡ u → y ≡ x → Found u y → Found t x
     moved t u y x a b f = rw (a, ← b) f
 
-    slot_of : (make : ℕ → Source) (letter c : ℕ) (rest : List ℕ) (x : Source) → ((slot : ℕ) → IsSmall slot → Found (c ∷ decimal slot) (make slot))
-        → (letter == c) ≡ true → option_map (made make) (number_token rest) ≡ Some (x, false) → Found (letter ∷ rest) x
-    slot_of make letter c rest x right is e =
-        let made = made_of make (number_token rest) x e in
-        let number = number_spells.found rest made.0 made.1.0 in
-        moved (letter ∷ rest) (c ∷ decimal made.0) (make made.0) x (same_cons letter c rest (decimal made.0) (eqb-true letter c is) number.0) made.1.1 (right made.0 number.1)
+    -- a slot behind its letter, or what another letter says
+    slot_or : (make : ℕ → Source) (letter c : ℕ) (rest : List ℕ) (x : Source) (others : Option (Source × Bool)) → ((slot : ℕ) → IsSmall slot → Found (c ∷ decimal slot) (make slot)) → (others ≡ Some (x, false) → Found (letter ∷ rest) x)
+        → (if letter == c then option_map (made make) (number_token rest) else others) ≡ Some (x, false) → Found (letter ∷ rest) x
+    slot_or make letter c rest x others right later e =
+        elim (if_or (letter == c) (option_map (made make) (number_token rest)) others (x, false) e) [
+          | inl here ↦
+              let made = made_of make (number_token rest) x here.1 in
+              let number = number_spells.found rest made.0 made.1.0 in
+              moved (letter ∷ rest) (c ∷ decimal made.0) (make made.0) x (same_cons letter c rest (decimal made.0) (eqb-true letter c here.0) number.0) made.1.1 (right made.0 number.1)
+          | inr other ↦ later other
+        ]
 
     const_found : (o : Option V4) (letter : ℕ) (rest : List ℕ) (x : Source) → value_letter rest ≡ o → (letter == 99) ≡ true → option_map const_of o ≡ Some (x, false) → Found (letter ∷ rest) x
     const_found None letter rest x is letter_is e = cc
@@ -188,42 +184,34 @@ source_spells = record { again = again; found = found }
         let same = same_read (Const v) x false false e in
         moved (letter ∷ rest) (99 ∷ value_char v ∷ []) (Const v) x (same_cons letter 99 rest (value_char v ∷ []) (eqb-true letter 99 letter_is) (value_found rest v is)) same.0 (refl, tt)
 
-    own_now : (slot : ℕ) → IsSmall slot → Found (111 ∷ decimal slot) (Own slot false)
-    own_now slot small = (refl, small)
-
-    own_last : (slot : ℕ) → IsSmall slot → Found (79 ∷ decimal slot) (Own slot true)
-    own_last slot small = (refl, small)
-
-    got_now : (slot : ℕ) → IsSmall slot → Found (103 ∷ decimal slot) (Got slot false)
-    got_now slot small = (refl, small)
-
-    got_last : (slot : ℕ) → IsSmall slot → Found (71 ∷ decimal slot) (Got slot true)
-    got_last slot small = (refl, small)
+    const_or : (letter : ℕ) (rest : List ℕ) (x : Source) → (if letter == 99 then option_map const_of (value_letter rest) else None) ≡ Some (x, false) → Found (letter ∷ rest) x
+    const_or letter rest x e =
+        elim (if_or (letter == 99) (option_map const_of (value_letter rest)) None (x, false) e) [
+          | inl here ↦ const_found (value_letter rest) letter rest x refl here.0 here.1
+          | inr none ↦ cc
+        ]
 
     by_letter : (letter : ℕ) (rest : List ℕ) (x : Source) → lettered letter rest ≡ Some (x, false) → Found (letter ∷ rest) x
-    by_letter letter rest x e =
-        elim (if_or (letter == 111) (option_map (made (λ slot. Own slot false)) (number_token rest)) _ (x, false) e) [
-          | inl here ↦ slot_of (λ slot. Own slot false) letter 111 rest x own_now here.0 here.1
-          | inr later ↦ elim (if_or (letter == 79) (option_map (made (λ slot. Own slot true)) (number_token rest)) _ (x, false) later) [
-            | inl here ↦ slot_of (λ slot. Own slot true) letter 79 rest x own_last here.0 here.1
-            | inr later ↦ elim (if_or (letter == 103) (option_map (made (λ slot. Got slot false)) (number_token rest)) _ (x, false) later) [
-              | inl here ↦ slot_of (λ slot. Got slot false) letter 103 rest x got_now here.0 here.1
-              | inr later ↦ elim (if_or (letter == 71) (option_map (made (λ slot. Got slot true)) (number_token rest)) _ (x, false) later) [
-                | inl here ↦ slot_of (λ slot. Got slot true) letter 71 rest x got_last here.0 here.1
-                | inr later ↦ elim (if_or (letter == 99) (option_map const_of (value_letter rest)) None (x, false) later) [
-                  | inl here ↦ const_found (value_letter rest) letter rest x refl here.0 here.1
-                  | inr none ↦ cc
-                ]
-              ]
-            ]
-          ]
-        ]
+    by_letter letter rest x =
+        slot_or (λ slot. Own slot false) letter 111 rest x _ (λ slot small. (refl, small))
+        (slot_or (λ slot. Own slot true) letter 79 rest x _ (λ slot small. (refl, small))
+        (slot_or (λ slot. Got slot false) letter 103 rest x _ (λ slot small. (refl, small))
+        (slot_or (λ slot. Got slot true) letter 71 rest x _ (λ slot small. (refl, small)) (const_or letter rest x))))
 
     found : (token : List ℕ) (x : Source) → source_token token ≡ Some (x, false) → Found token x
     found [] x e = cc
     found (letter ∷ rest) x e = by_letter letter rest x e
 
 -- ---- words
+
+-- a word that says this, or what another word says
+word_or : {X : Type 0} (word : X → List ℕ) (y : X) (token : List ℕ) (x : X) (others : Option (X × Bool)) → (others ≡ Some (x, false) → token ≡ word x)
+    → (if bytes_eq token (word y) then Some (y, false) else others) ≡ Some (x, false) → token ≡ word x
+word_or word y token x others later e =
+    elim (if_or (bytes_eq token (word y)) (Some (y, false)) others (x, false) e) [
+      | inl here ↦ (bytes_eq-Decides token (word y)).0 here.0 ∙ ap word (same_read y x false false here.1).0
+      | inr other ↦ later other
+    ]
 
 pub init_spells : SpellsToken init_token init_word (λ _. Unit {0})
 unfolding init_token init_word
@@ -234,14 +222,7 @@ init_spells = record { again = again; found = found }
     again Zero good = refl
 
     found : (token : List ℕ) (x : Init) → init_token token ≡ Some (x, false) → (token ≡ init_word x) × Unit {0}
-    found token x e =
-        elim (if_or (bytes_eq token (codes "x")) (Some (Undef, false)) _ (x, false) e) [
-          | inl here ↦ rw ((bytes_eq-Decides token (codes "x")).0 here.0, ← (same_read Undef x false false here.1).0) (refl, tt)
-          | inr later ↦ elim (if_or (bytes_eq token (codes "0")) (Some (Zero, false)) None (x, false) later) [
-            | inl here ↦ rw ((bytes_eq-Decides token (codes "0")).0 here.0, ← (same_read Zero x false false here.1).0) (refl, tt)
-            | inr none ↦ cc
-          ]
-        ]
+    found token x e = (word_or init_word Undef token x _ (word_or init_word Zero token x None (λ none. cc)) e, tt)
 
 pub kind_spells : SpellsToken kind_token kind_word (λ _. Unit {0})
 unfolding kind_token kind_word
@@ -249,21 +230,10 @@ kind_spells = record { again = again; found = found }
   where
     again : (x : PortKind) → Unit {0} → kind_token (kind_word x) ≡ Some (x, false)
     again Logic good = refl
-    again Array good = refl
-    again Host good = refl
+    again other good = refl
 
     found : (token : List ℕ) (x : PortKind) → kind_token token ≡ Some (x, false) → (token ≡ kind_word x) × Unit {0}
-    found token x e =
-        elim (if_or (bytes_eq token (codes "logic")) (Some (Logic, false)) _ (x, false) e) [
-          | inl here ↦ rw ((bytes_eq-Decides token (codes "logic")).0 here.0, ← (same_read Logic x false false here.1).0) (refl, tt)
-          | inr later ↦ elim (if_or (bytes_eq token (codes "array")) (Some (Array, false)) _ (x, false) later) [
-            | inl here ↦ rw ((bytes_eq-Decides token (codes "array")).0 here.0, ← (same_read Array x false false here.1).0) (refl, tt)
-            | inr later ↦ elim (if_or (bytes_eq token (codes "host")) (Some (Host, false)) None (x, false) later) [
-              | inl here ↦ rw ((bytes_eq-Decides token (codes "host")).0 here.0, ← (same_read Host x false false here.1).0) (refl, tt)
-              | inr none ↦ cc
-            ]
-          ]
-        ]
+    found token x e = (word_or kind_word Logic token x _ (word_or kind_word Array token x _ (word_or kind_word Host token x None (λ none. cc))) e, tt)
 
 -- ---- words of tables
 

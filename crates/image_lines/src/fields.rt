@@ -1,13 +1,11 @@
 //! The fields of a line, read one after another.
 
-ghost use Rattle.std.specs.Prelude.{◌≡◌, ◌∷◌, [], false, MatchOption, ℕ};
-ghost use Rattle.std.specs.Prelude.{◌||◌};
-ghost use Rattle.image_lines.specs.Tokens.{behind, field, tokens_of, number_token, source_token, init_token, kind_token};
+ghost use Rattle.std.specs.Prelude.{◌≡◌, ◌||◌, ◌∷◌, [], false, MatchOption};
+ghost use Rattle.image_lines.specs.Tokens.{behind, field, tokens_of};
 ghost use Rattle.image_lines.specs.code.Tokens.{left_tokens, Gives};
 ghost use Rattle.image_lines.specs.Forms.{number, numbers, sources, feeds, times, counts, init};
 
-use crate::line::PortKind;
-use crate::tokens;
+use crate::tokens::Token;
 use crate::word::is_word;
 use image_defs::Source;
 use net_defs::Init;
@@ -69,15 +67,15 @@ impl<'a> Fields<'a> {
         self.large = self.large || large;
     }
 
-    /// A number.
+    /// The next token, read as a value of the type.
     #[tactic(auto, unfolding(crate::specs::Tokens::field))]
-    pub(crate) fn number(&mut self) -> Option<u32>
-        ensures { Gives (field number_token self.old) result self.new }
+    pub(crate) fn field<T: Token>(&mut self) -> Option<T>
+        ensures { Gives (field T.read self.old) result self.new }
     {
         let Some(token) = self.next() else {
             return None;
         };
-        let Some((value, large)) = tokens::number_token(token) else {
+        let Some((value, large)) = T::read(token) else {
             return None;
         };
         self.note(large);
@@ -92,7 +90,11 @@ impl<'a> Fields<'a> {
         let Some(token) = self.next() else {
             return None;
         };
-        if token == word { self.number() } else { None }
+        if token == word {
+            self.field::<u32>()
+        } else {
+            None
+        }
     }
 
     /// Two numbers.
@@ -100,10 +102,10 @@ impl<'a> Fields<'a> {
     pub(crate) fn numbers(&mut self) -> Option<(u32, u32)>
         ensures { Gives (numbers self.old) result self.new }
     {
-        let Some(first) = self.number() else {
+        let Some(first) = self.field::<u32>() else {
             return None;
         };
-        let Some(second) = self.number() else {
+        let Some(second) = self.field::<u32>() else {
             return None;
         };
         Some((first, second))
@@ -114,7 +116,7 @@ impl<'a> Fields<'a> {
     pub(crate) fn times(&mut self) -> Option<(u32, u32)>
         ensures { Gives (times self.old) result self.new }
     {
-        let Some(slots) = self.number() else {
+        let Some(slots) = self.field::<u32>() else {
             return None;
         };
         let Some(units) = self.number_behind(b"units") else {
@@ -146,39 +148,10 @@ impl<'a> Fields<'a> {
             return None;
         };
         if is_word(token, b"init") {
-            self.init_field()
+            self.field::<Init>()
         } else {
             None
         }
-    }
-
-    #[tactic(auto, unfolding(crate::specs::Tokens::field))]
-    fn init_field(&mut self) -> Option<Init>
-        ensures { Gives (field init_token self.old) result self.new }
-    {
-        let Some(token) = self.next() else {
-            return None;
-        };
-        let Some((value, large)) = tokens::init_token(token) else {
-            return None;
-        };
-        self.note(large);
-        Some(value)
-    }
-
-    /// The kind of a port.
-    #[tactic(auto, unfolding(crate::specs::Tokens::field))]
-    pub(crate) fn kind(&mut self) -> Option<PortKind>
-        ensures { Gives (field kind_token self.old) result self.new }
-    {
-        let Some(token) = self.next() else {
-            return None;
-        };
-        let Some((value, large)) = tokens::kind_token(token) else {
-            return None;
-        };
-        self.note(large);
-        Some(value)
     }
 
     /// Two sources.
@@ -186,10 +159,10 @@ impl<'a> Fields<'a> {
     fn sources(&mut self) -> Option<(Source, Source)>
         ensures { Gives (sources self.old) result self.new }
     {
-        let Some(first) = self.source() else {
+        let Some(first) = self.field::<Source>() else {
             return None;
         };
-        let Some(second) = self.source() else {
+        let Some(second) = self.field::<Source>() else {
             return None;
         };
         Some((first, second))
@@ -207,21 +180,6 @@ impl<'a> Fields<'a> {
             return None;
         };
         Some((first, second))
-    }
-
-    /// A source.
-    #[tactic(auto, unfolding(crate::specs::Tokens::field))]
-    pub(crate) fn source(&mut self) -> Option<Source>
-        ensures { Gives (field source_token self.old) result self.new }
-    {
-        let Some(token) = self.next() else {
-            return None;
-        };
-        let Some((value, large)) = tokens::source_token(token) else {
-            return None;
-        };
-        self.note(large);
-        Some(value)
     }
 }
 

@@ -3,17 +3,16 @@
 ghost use Rattle.std.specs.Prelude.{◌≡◌, IfOk, true, false};
 ghost use Rattle.text_lines.specs.Answers.{AnswersAs};
 ghost use Rattle.image_lines.specs.declared.line.LineNo.TheVariants.{Memory as NoMemory};
-ghost use Rattle.image_lines.specs.Tokens.{tokens_of};
 ghost use Rattle.image_lines.specs.code.Tokens.{Gives};
 ghost use Rattle.image_lines.specs.Forms.{line_read, line_in, form, eval, hold, bit, input, print, receipt, port, version, head, finished_by, is_within, is_from};
 ghost use Rattle.image_lines.specs.code.Forms.{IsShort};
 ghost use Rattle.image_lines.specs.declared.line.Line.TheVariants as line;
 
 use crate::fields::Fields;
-use crate::line::{Line, LineNo, Sizes};
+use crate::line::{Line, LineNo, PortKind, Sizes};
 use crate::lists::{block, send, table};
 use crate::word::{Word, is_word, named};
-use image_defs::{BlockWork, InColumn, LinkIn, OutBit, Task};
+use image_defs::{BlockWork, InColumn, LinkIn, OutBit, Source, Task};
 use limits::{MAX_ADDRESS_BITS, MAX_PORTS, MAX_SIGNALS, MAX_SLOTS, MAX_UNITS, MAX_WORD_BITS};
 use seen_list::Memory;
 use std::alloc::Global;
@@ -40,7 +39,6 @@ fn finished(line: Line, mut fields: Fields) -> Result<(Line, bool), LineNo>
 {
     let large = fields.is_large();
     if fields.next().is_some() {
-        drop(line);
         return Err(LineNo::Syntax);
     }
     let within = !large && is_within(&line);
@@ -172,7 +170,7 @@ fn head(fields: &mut Fields) -> Option<Line>
 fn port(fields: &mut Fields) -> Option<Line>
     ensures { Gives (port fields.old) result fields.new }
 {
-    let Some(kind) = fields.kind() else {
+    let Some(kind) = fields.field::<PortKind>() else {
         return None;
     };
     Some(Line::Port(kind))
@@ -188,7 +186,7 @@ fn eval(fields: &mut Fields) -> Option<Line>
     let Some(((a, b), (c, d))) = fields.feeds() else {
         return None;
     };
-    let Some(item) = fields.number() else {
+    let Some(item) = fields.field::<u32>() else {
         return None;
     };
     let task = Task::Eval {
@@ -206,13 +204,13 @@ fn eval(fields: &mut Fields) -> Option<Line>
 fn hold(fields: &mut Fields) -> Option<Line>
     ensures { Gives (hold fields.old) result fields.new }
 {
-    let Some(slot) = fields.number() else {
+    let Some(slot) = fields.field::<u32>() else {
         return None;
     };
-    let Some(from) = fields.source() else {
+    let Some(from) = fields.field::<Source>() else {
         return None;
     };
-    let Some(item) = fields.number() else {
+    let Some(item) = fields.field::<u32>() else {
         return None;
     };
     let task = Task::Hold { slot, from };
@@ -237,7 +235,7 @@ fn bit(fields: &mut Fields) -> Option<Line>
 fn input(fields: &mut Fields) -> Option<Line>
     ensures { Gives (input fields.old) result fields.new }
 {
-    let Some(slot) = fields.number() else {
+    let Some(slot) = fields.field::<u32>() else {
         return None;
     };
     let Some((column, item)) = fields.numbers() else {
@@ -251,7 +249,7 @@ fn input(fields: &mut Fields) -> Option<Line>
 fn print(fields: &mut Fields) -> Option<Line>
     ensures { Gives (print fields.old) result fields.new }
 {
-    let Some(source) = fields.source() else {
+    let Some(source) = fields.field::<Source>() else {
         return None;
     };
     Some(Line::Print(source))

@@ -1,61 +1,25 @@
 //! All tokens that are left of a line.
 
-ghost use Rattle.std.specs.Prelude.{◌≡◌, ℕ, Some, None, [], IfOk, MatchOption};
-ghost use Rattle.image_lines.specs.Tokens.{all_of, number_token, source_token, hex_token};
+ghost use Rattle.std.specs.Prelude.{◌≡◌, Some, None, IfOk};
+ghost use Rattle.image_lines.specs.Tokens.{all_of};
 ghost use Rattle.image_lines.specs.code.Tokens.{AllGiven, Gives};
 ghost use Rattle.image_lines.specs.Forms.{send, send_of, table, table_of, block, block_of};
 
 use crate::fields::Fields;
 use crate::line::Line;
-use crate::tokens;
+use crate::tokens::Token;
 use func_table::Table;
 use image_defs::{BlockWork, LinkOut, Source};
 use seen_list::{List, Memory};
 use std::alloc::Global;
 
-/// The numbers that are left.
-pub(crate) fn all_numbers(alloc: Global, fields: &mut Fields) -> Result<Option<List<u32>>, Memory>
-    ensures { IfOk result (λ read. AllGiven (all_of number_token fields.old.0 fields.old.1) read fields.new) }
+/// The tokens that are left, all read as values of one type.
+fn all_tokens<T: Token>(alloc: Global, fields: &mut Fields) -> Result<Option<List<T>>, Memory>
+    ensures { IfOk result (λ read. AllGiven (all_of T.read fields.old.0 fields.old.1) read fields.new) }
 {
     let mut values = List::new(alloc);
     'tokens: while let Some(token) = fields.next() {
-        let Some((value, large)) = tokens::number_token(token) else {
-            drop(values);
-            return Ok(None);
-        };
-        fields.note(large);
-        values.push(value)?;
-    }
-    Ok(Some(values))
-}
-
-/// The sources that are left.
-pub(crate) fn all_sources(
-    alloc: Global,
-    fields: &mut Fields,
-) -> Result<Option<List<Source>>, Memory>
-    ensures { IfOk result (λ read. AllGiven (all_of source_token fields.old.0 fields.old.1) read fields.new) }
-{
-    let mut values = List::new(alloc);
-    'tokens: while let Some(token) = fields.next() {
-        let Some((value, large)) = tokens::source_token(token) else {
-            drop(values);
-            return Ok(None);
-        };
-        fields.note(large);
-        values.push(value)?;
-    }
-    Ok(Some(values))
-}
-
-/// The words of a table that are left.
-pub(crate) fn all_words(alloc: Global, fields: &mut Fields) -> Result<Option<List<u64>>, Memory>
-    ensures { IfOk result (λ read. AllGiven (all_of hex_token fields.old.0 fields.old.1) read fields.new) }
-{
-    let mut values = List::new(alloc);
-    'tokens: while let Some(token) = fields.next() {
-        let Some((value, large)) = tokens::hex_token(token) else {
-            drop(values);
+        let Some((value, large)) = T::read(token) else {
             return Ok(None);
         };
         fields.note(large);
@@ -69,14 +33,13 @@ pub(crate) fn all_words(alloc: Global, fields: &mut Fields) -> Result<Option<Lis
 pub(crate) fn send(alloc: Global, fields: &mut Fields) -> Result<Option<Line>, Memory>
     ensures { IfOk result (λ read. Gives (send fields.old) read fields.new) }
 {
-    let Some(slot) = fields.number() else {
+    let Some(slot) = fields.field::<u32>() else {
         return Ok(None);
     };
-    match all_numbers(alloc, fields) {
-        Ok(Some(readers)) => Ok(send_of(slot, readers)),
-        Ok(None) => Ok(None),
-        Err(memory) => Err(memory),
-    }
+    let Some(readers) = all_tokens::<u32>(alloc, fields)? else {
+        return Ok(None);
+    };
+    Ok(send_of(slot, readers))
 }
 
 /// The link out, unless it has no reader.
@@ -95,11 +58,10 @@ fn send_of(slot: u32, readers: List<u32>) -> Option<Line>
 pub(crate) fn table(alloc: Global, fields: &mut Fields) -> Result<Option<Line>, Memory>
     ensures { IfOk result (λ read. Gives (table fields.old) read fields.new) }
 {
-    match all_words(alloc, fields) {
-        Ok(Some(words)) => Ok(table_of(words.as_slice())),
-        Ok(None) => Ok(None),
-        Err(memory) => Err(memory),
-    }
+    let Some(words) = all_tokens::<u64>(alloc, fields)? else {
+        return Ok(None);
+    };
+    Ok(table_of(words.as_slice()))
 }
 
 /// The table of words, if they are eight.
@@ -124,11 +86,10 @@ pub(crate) fn block(alloc: Global, fields: &mut Fields) -> Result<Option<Line>, 
     let Some((address, word)) = fields.numbers() else {
         return Ok(None);
     };
-    match all_sources(alloc, fields) {
-        Ok(Some(sources)) => block_of(alloc, address, word, sources.as_slice()),
-        Ok(None) => Ok(None),
-        Err(memory) => Err(memory),
-    }
+    let Some(sources) = all_tokens::<Source>(alloc, fields)? else {
+        return Ok(None);
+    };
+    block_of(alloc, address, word, sources.as_slice())
 }
 
 /// The memory, if it has as many sources as its numbers say.

@@ -1,6 +1,6 @@
 //! Single tokens. Beside the value of a token stands whether a number in it is too large.
 
-ghost use Rattle.std.specs.Prelude.{◌≡◌, min, Some, None, if◌then◌else◌};
+ghost use Rattle.std.specs.Prelude.{◌≡◌, ℕ, Bool, List as Items, Option, min, Some, None, if◌then◌else◌};
 ghost use Rattle.std.specs.List.{list_all};
 ghost use Rattle.std.specs.Option.{option_map};
 ghost use Rattle.image_lines.specs.Tokens.{plain_number, number_token, source_token, lettered, value_letter, init_token, kind_token, hex_token, is_hex, hex_value, hex_value_of};
@@ -11,6 +11,66 @@ use image_defs::Source;
 use logic_four::V4;
 use net_defs::Init;
 use text_lines::numbers::number;
+
+/// What single tokens are read as.
+pub(crate) trait Token: Drop {
+    // the value of a token, and whether a number in it is too large
+    ghost read: { Items ℕ → Option (Self × Bool) };
+
+    /// The value of the token, and whether a number in it is too large.
+    fn read(token: &[u8]) -> Option<(Self, bool)>
+        ensures { result ≡ read token.now };
+}
+
+impl Token for u32 {
+    ghost use Rattle.image_lines.specs.Tokens.{number_token};
+
+    ghost read = { number_token };
+
+    fn read(token: &[u8]) -> Option<(u32, bool)> {
+        number_token(token)
+    }
+}
+
+impl Token for u64 {
+    ghost use Rattle.image_lines.specs.Tokens.{hex_token};
+
+    ghost read = { hex_token };
+
+    fn read(token: &[u8]) -> Option<(u64, bool)> {
+        hex_token(token)
+    }
+}
+
+impl Token for Source {
+    ghost use Rattle.image_lines.specs.Tokens.{source_token};
+
+    ghost read = { source_token };
+
+    fn read(token: &[u8]) -> Option<(Source, bool)> {
+        source_token(token)
+    }
+}
+
+impl Token for Init {
+    ghost use Rattle.image_lines.specs.Tokens.{init_token};
+
+    ghost read = { init_token };
+
+    fn read(token: &[u8]) -> Option<(Init, bool)> {
+        init_token(token)
+    }
+}
+
+impl Token for PortKind {
+    ghost use Rattle.image_lines.specs.Tokens.{kind_token};
+
+    ghost read = { kind_token };
+
+    fn read(token: &[u8]) -> Option<(PortKind, bool)> {
+        kind_token(token)
+    }
+}
 
 /// The number, of any size, without leading zeros. One that is too large for a `u64` is read as the
 /// greatest `u64`.
@@ -26,7 +86,7 @@ fn plain_number(token: &[u8]) -> Option<u64>
 
 /// A number, or the greatest `u32` in place of one that is too large.
 #[tactic(auto, unfolding(crate::specs::Tokens::number_token))]
-pub(crate) fn number_token(token: &[u8]) -> Option<(u32, bool)>
+fn number_token(token: &[u8]) -> Option<(u32, bool)>
     ensures { result ≡ number_token token.now }
 {
     match plain_number(token) {
@@ -38,7 +98,7 @@ pub(crate) fn number_token(token: &[u8]) -> Option<(u32, bool)>
 
 /// A source: its letter, and a slot or a value.
 #[tactic(auto, unfolding(crate::specs::Tokens::source_token))]
-pub(crate) fn source_token(token: &[u8]) -> Option<(Source, bool)>
+fn source_token(token: &[u8]) -> Option<(Source, bool)>
     ensures { result ≡ source_token token.now }
 {
     match token {
@@ -56,9 +116,7 @@ fn lettered(letter: u8, rest: &[u8]) -> Option<(Source, bool)>
             None => None,
         };
     }
-    let Some((slot, large)) = number_token(rest) else {
-        return None;
-    };
+    let (slot, large) = number_token(rest)?;
     match letter {
         b'o' => Some((Source::Own { slot, last: false }, large)),
         b'O' => Some((Source::Own { slot, last: true }, large)),
@@ -83,7 +141,7 @@ fn value_letter(letters: &[u8]) -> Option<V4>
 
 /// What registers and memories hold at first.
 #[tactic(auto, unfolding(crate::specs::Tokens::init_token))]
-pub(crate) fn init_token(token: &[u8]) -> Option<(Init, bool)>
+fn init_token(token: &[u8]) -> Option<(Init, bool)>
     ensures { result ≡ init_token token.now }
 {
     if is_word(token, b"x") {
@@ -97,7 +155,7 @@ pub(crate) fn init_token(token: &[u8]) -> Option<(Init, bool)>
 
 /// The kind of a port.
 #[tactic(auto, unfolding(crate::specs::Tokens::kind_token))]
-pub(crate) fn kind_token(token: &[u8]) -> Option<(PortKind, bool)>
+fn kind_token(token: &[u8]) -> Option<(PortKind, bool)>
     ensures { result ≡ kind_token token.now }
 {
     if is_word(token, b"logic") {
@@ -113,7 +171,7 @@ pub(crate) fn kind_token(token: &[u8]) -> Option<(PortKind, bool)>
 
 /// A word of a table, of 16 digits.
 #[tactic(auto, using(crate::proofs::HexLemmas::not_capped), unfolding(crate::specs::Tokens::hex_token))]
-pub(crate) fn hex_token(token: &[u8]) -> Option<(u64, bool)>
+fn hex_token(token: &[u8]) -> Option<(u64, bool)>
     ensures { result ≡ hex_token token.now }
 {
     if token.len() != 16 {
@@ -132,9 +190,7 @@ fn hex_value(digits: &[u8]) -> Option<u64>
 {
     let mut value = 0u64;
     for digit in digits {
-        let Some(worth) = hex_worth(*digit) else {
-            return None;
-        };
+        let worth = hex_worth(*digit)?;
         value = value.saturating_mul(16).saturating_add(worth);
     }
     Some(value)

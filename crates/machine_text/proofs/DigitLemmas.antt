@@ -106,8 +106,7 @@ unfolding number_of
 digits_from_number bytes is = chosen (nat_lt 0 (length bytes)) (are_digits bytes) is where
   chosen : (a b : Bool) → cond (a && b) (Some (digits_value bytes)) None ≡ Some (digits_value bytes) → b ≡ true
   chosen true true e = refl
-  chosen true false e = cc
-  chosen false b e = cc
+  chosen a b e = cc
 
 pub number_is : (bytes : List ℕ) → is_some (number_of bytes) ≡ true → number_of bytes ≡ Some (digits_value bytes)
 unfolding number_of

@@ -1,6 +1,6 @@
 -- What is kept of the lines so far is enough to tell the fault of the next one.
-use Rattle.std.proofs.Common.{◌≡◌, ℕ, ◌+◌, ◌≤◌, ◌||◌, ◌&&◌, Bool, true, false, cond, nat_eq, List, [], ◌∷◌, ◌++◌, length, take, get_or, Option, Some, None, sym, ap, ◌∙◌, subst, refl, arith, append-nil, add-one}
-use Rattle.std.specs.List.{list_any, filter_map, cons_option}
+use Rattle.std.proofs.Common.{◌≡◌, ℕ, ◌+◌, ◌≤◌, ◌||◌, ◌&&◌, Bool, true, false, cond, nat_eq, List, [], ◌∷◌, ◌++◌, length, take, drop, get_or, Option, Some, None, sym, ap, ◌∙◌, subst, refl, arith, append-nil, add-one}
+use Rattle.std.specs.List.{list_any, enumerate_from, filter_map, cons_option}
 use Rattle.std.proofs.lemmas.List.{take_more, take_all}
 use Rattle.std.proofs.lemmas.List.Elements.{filter_map-append}
 use Rattle.text_lines.specs.Answers.{first}
@@ -18,7 +18,7 @@ use Rattle.machine_text.specs.Quantities.{same_quantity, in_range, quantity_of}
 use Rattle.machine_text.specs.Settings.{same_given, setting_of, settings_of, sets}
 use Rattle.machine_text.specs.code.Given.{fault_in, given_after, given_fault, ports_in}
 use Rattle.machine_text.specs.Machines.{fault_of, line_fault}
-use Rattle.machine_text.proofs.SayingLemmas.{IsNext}
+use Rattle.machine_text.proofs.SayingLemmas.{IsNext, next_said, no_next_said}
 
 -- the port that a line limits in this, if it does
 abbrev port_limited : Limited → Says → Option ℕ
@@ -65,57 +65,61 @@ given_more says said =
 set_before : (quantity : Quantity) (n : ℕ) (says : List Says) → list_any (sets quantity) (settings_of says) ≡ list_any (same_given (Sets quantity n)) says
 unfolding settings_of
 set_before quantity n [] = refl
-set_before quantity n (Nothing ∷ says) = set_before quantity n says
-set_before quantity n (Other ∷ says) = set_before quantity n says
-set_before quantity n (Limits what port m ∷ says) = set_before quantity n says
 set_before quantity n (Sets a m ∷ says) = ap (λ b. same_quantity quantity a || b) (set_before quantity n says)
+set_before quantity n (said ∷ says) = set_before quantity n says
 
 limited_before : (what : Limited) (port n : ℕ) (says : List Says) → list_any (nat_eq port) (ports_limited what says) ≡ list_any (same_given (Limits what port n)) says
 limited_before what port n [] = refl
-limited_before what port n (Nothing ∷ says) = limited_before what port n says
-limited_before what port n (Other ∷ says) = limited_before what port n says
-limited_before what port n (Sets a m ∷ says) = limited_before what port n says
 limited_before what port n (Limits which other m ∷ says) =
     chosen (same_limited what which) (ports_limited what says) (limited_before what port n says)
   where
     chosen : (b : Bool) (later : List ℕ) → list_any (nat_eq port) later ≡ list_any (same_given (Limits what port n)) says → list_any (nat_eq port) (cons_option (cond b (Some other) None) later) ≡ ((b && nat_eq port other) || list_any (same_given (Limits what port n)) says)
     chosen true later e = ap (λ b. nat_eq port other || b) e
     chosen false later e = e
+limited_before what port n (said ∷ says) = limited_before what port n says
 
 fault_same : (says : List Says) (line : ℕ) (said : Says) → fault_in (given_by says) line said ≡ fault_of says line said
-fault_same says line Nothing = refl
-fault_same says line Other = refl
 fault_same says line (Sets quantity n) = ap (λ twice. given_fault line twice (in_range quantity n)) (set_before quantity n says)
 fault_same says line (Limits what port n) =
     ap (λ twice. given_fault line twice (in_range (quantity_of what) n)) (ap (list_any (nat_eq port)) (ports_in-given_by what says) ∙ limited_before what port n says)
+fault_same says line said = refl
 
 -- ---- the loop over the lines
 
--- k lines have passed, which had no fault and gave this
-pub record HasTaken (says : List Says) (k : ℕ) (given : Given) : Type 0 where
+-- k lines have passed, which had no fault and gave this, and these are ahead
+pub record HasTaken (says : List Says) (k : ℕ) (ahead : List (ℕ × Says)) (given : Given) : Type 0 where
+  pub within : k ≤ length says
+  pub left : ahead ≡ enumerate_from (k + 1) (drop k says)
   pub so_far : given ≡ given_by (take k says)
   pub no_fault : first (line_fault says) k ≡ None
 
-here : (says : List Says) (k line : ℕ) (said : Says) (left : List (ℕ × Says)) (given : Given) → HasTaken says k given → IsNext says k line said left → line_fault says k ≡ fault_in given line said
-here says k line said left given taken next = rw (taken.so_far, next.number, next.here) (sym (fault_same (take k says) (k + 1) (get_or says k Nothing)))
-
-pub taken_none : (says : List Says) → HasTaken says 0 (record { settings = []; functions = []; nodes = []; bits = [] })
+pub taken_none : {says : List Says} {ahead : List (ℕ × Says)} → ahead ≡ enumerate_from 1 says → HasTaken says 0 ahead (record { settings = []; functions = []; nodes = []; bits = [] })
 unfolding settings_of
-taken_none says = record { so_far = refl; no_fault = first-zero _ }
+taken_none left = record { within = omega arith; left = left; so_far = refl; no_fault = first-zero _ }
 
-pub taken_more : (says : List Says) (k line : ℕ) (said : Says) (left : List (ℕ × Says)) (given after : Given) → HasTaken says k given → IsNext says k line said left → fault_in given line said ≡ None → after ≡ given_after given said → HasTaken says (k + 1) after
-taken_more says k line said left given after taken next none is =
-    record {
+module _ {says : List Says} {k : ℕ} {ahead : List (ℕ × Says)} {given : Given} (taken : HasTaken says k ahead given) where
+  -- all lines have passed
+  pub taken_all : ahead ≡ [] → (first (line_fault says) (length says) ≡ None) × (given.settings ≡ settings_of says)
+  taken_all none =
+      let past : length says ≤ k = no_next_said _ _ _ taken.left none in
+      let all : k ≡ length says = omega (arith, past, taken.within) in
+      (subst (λ n. first (line_fault says) n ≡ None) all taken.no_fault, ap (λ given. given.settings) taken.so_far ∙ ap settings_of (take_all k says past))
+
+  -- a line comes
+  module _ {line : ℕ} {said : Says} {later : List (ℕ × Says)} (comes : ahead ≡ (line, said) ∷ later) where
+    next : IsNext says k line said later
+    next = next_said says k line said later ahead taken.left comes
+
+    here : line_fault says k ≡ fault_in given line said
+    here = rw (taken.so_far, next.number, next.here) (sym (fault_same (take k says) (k + 1) (get_or says k Nothing)))
+
+    pub taken_more : (after : Given) → fault_in given line said ≡ None → after ≡ given_after given said → HasTaken says (k + 1) later after
+    taken_more after none is = record {
+      within = omega (arith, next.within);
+      left = next.rest;
       so_far = rw (is, next.here, taken.so_far, take_more says k Nothing next.within) (sym (given_more (take k says) (get_or says k Nothing)));
-      no_fault = rw add-one (first_none_more (line_fault says) k taken.no_fault (here says k line said left given taken next ∙ none));
+      no_fault = rw add-one (first_none_more (line_fault says) k taken.no_fault (here ∙ none));
     }
 
-pub taken_fault : (says : List Says) (k line : ℕ) (said : Says) (left : List (ℕ × Says)) (given : Given) (e : MachNo) → HasTaken says k given → IsNext says k line said left → fault_in given line said ≡ Some e → first (line_fault says) (length says) ≡ Some e
-taken_fault says k line said left given e taken next fault =
-    first_some (line_fault says) k (length says) e next.within taken.no_fault (here says k line said left given taken next ∙ fault)
-
--- all lines have passed
-pub taken_all : (says : List Says) (k : ℕ) (given : Given) → HasTaken says k given → k ≤ length says → length says ≤ k → (first (line_fault says) (length says) ≡ None) × (given.settings ≡ settings_of says)
-taken_all says k given taken within past =
-    let all : k ≡ length says = omega arith in
-    (subst (λ n. first (line_fault says) n ≡ None) all taken.no_fault, ap (λ given. given.settings) taken.so_far ∙ ap settings_of (take_all k says past))
+    pub taken_fault : (e : MachNo) → fault_in given line said ≡ Some e → first (line_fault says) (length says) ≡ Some e
+    taken_fault e fault = first_some (line_fault says) k (length says) e next.within taken.no_fault (here ∙ fault)

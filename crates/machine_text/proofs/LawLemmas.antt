@@ -92,11 +92,7 @@ same_is _ _ e = cc
 
 default_in_range : (quantity : Quantity) → in_range quantity (default_of quantity) ≡ true
 default_in_range Logic = refl
-default_in_range Array = refl
-default_in_range Slots = refl
-default_in_range Functions = refl
-default_in_range Bits = refl
-default_in_range Nodes = refl
+default_in_range other = refl
 
 number_in_range : (says : List Says) (quantity : Quantity) → AllByRecursion (λ said. is_allowed said ≡ true) says → in_range quantity (number_in (settings_of says) quantity) ≡ true
 unfolding settings_of
@@ -127,18 +123,14 @@ bounds_from_allowed says quantity allowed =
 each_limit : (P : PortLimit → Type 0) (says : List Says) → AllByRecursion (λ said. IfSome (limit_of said) P) says → AllByRecursion P (limits_of says)
 unfolding limits_of
 each_limit P [] all = tt
-each_limit P (Nothing ∷ says) all = each_limit P says all.1
-each_limit P (Other ∷ says) all = each_limit P says all.1
-each_limit P (Sets quantity n ∷ says) all = each_limit P says all.1
 each_limit P (Limits what port n ∷ says) all = (all.0, each_limit P says all.1)
+each_limit P (said ∷ says) all = each_limit P says all.1
 
 each_line : (P : PortLimit → Type 0) (says : List Says) → AllByRecursion P (limits_of says) → AllByRecursion (λ said. IfSome (limit_of said) P) says
 unfolding limits_of
 each_line P [] all = tt
-each_line P (Nothing ∷ says) all = (tt, each_line P says all)
-each_line P (Other ∷ says) all = (tt, each_line P says all)
-each_line P (Sets quantity n ∷ says) all = (tt, each_line P says all)
 each_line P (Limits what port n ∷ says) all = (all.0, each_line P says all.1)
+each_line P (said ∷ says) all = (tt, each_line P says all)
 
 limits_from_lines : (P : PortLimit → Type 0) (says : List Says) → All (λ said. IfSome (limit_of said) P) says → All P (limits_of says)
 limits_from_lines P says all = All-from_recursion P (limits_of says) (each_limit P says (recursion_from_All (λ said. IfSome (limit_of said) P) says all))
@@ -151,19 +143,15 @@ abbrev IsThere : ℕ → ℕ → PortLimit → Type 0
 IsThere logic array own = own.port < processors logic array own.what
 
 there_from_none : (logic array line : ℕ) (said : Says) → absent_fault logic array line said ≡ None → IfSome (limit_of said) (IsThere logic array)
-there_from_none logic array line Nothing none = tt
-there_from_none logic array line Other none = tt
-there_from_none logic array line (Sets quantity n) none = tt
 there_from_none logic array line (Limits what port n) none = chosen (cases_lt port (processors logic array what)) where
   chosen : (port < processors logic array what) ⊎ (processors logic array what ≤ port) → port < processors logic array what
   chosen (inl below) = below
   chosen (inr past) = cc (sym (cond-false _ None (Some (NoPort line)) (le-ltb _ _ past)) ∙ none)
+there_from_none logic array line said none = tt
 
 none_from_there : (logic array line : ℕ) (said : Says) → IfSome (limit_of said) (IsThere logic array) → absent_fault logic array line said ≡ None
-none_from_there logic array line Nothing there = refl
-none_from_there logic array line Other there = refl
-none_from_there logic array line (Sets quantity n) there = refl
 none_from_there logic array line (Limits what port n) there = cond-true _ _ _ (lt-ltb _ _ there)
+none_from_there logic array line said there = refl
 
 there_from_no_fault : (logic array : ℕ) (says : List Says) → first (port_fault logic array says) (length says) ≡ None → All (IsThere logic array) (limits_of says)
 there_from_no_fault logic array says none =
@@ -180,12 +168,10 @@ processors_counted machine limited.Nodes = refl
 processors_counted machine limited.Bits = refl
 
 limit_bounds : (said : Says) → is_allowed said ≡ true → IfSome (limit_of said) (λ own. (1 ≤ own.limit) × (own.limit ≤ limit_most own.what))
-limit_bounds Nothing allowed = tt
-limit_bounds Other allowed = tt
-limit_bounds (Sets quantity n) allowed = tt
 limit_bounds (Limits limited.Functions port n) allowed = let both = and_parts _ _ allowed in (leb-true _ _ both.0, leb-true _ _ both.1)
 limit_bounds (Limits limited.Nodes port n) allowed = let both = and_parts _ _ allowed in (leb-true _ _ both.0, leb-true _ _ both.1)
 limit_bounds (Limits limited.Bits port n) allowed = let both = and_parts _ _ allowed in (leb-true _ _ both.0, leb-true _ _ both.1)
+limit_bounds said allowed = tt
 
 limits_once : (says : List Says) → AllPairs (λ a b. same_given b a ≡ false) says → AllPairs (λ a b. is_at a.what a.port b ≡ false) (limits_of says)
 unfolding limits_of
@@ -194,22 +180,18 @@ limits_once (said ∷ says) once =
     by_case said (λ i d within. once 0 (suc i) d (omega arith) (omega (arith, within))) (limits_once says (λ i j d low up. once (suc i) (suc j) d (omega (arith, low)) (omega (arith, up))))
   where
     other_port : (what : Limited) (port n : ℕ) (said : Says) → same_given said (Limits what port n) ≡ false → IfSome (limit_of said) (λ own. is_at what port own ≡ false)
-    other_port what port n Nothing apart = tt
-    other_port what port n Other apart = tt
-    other_port what port n (Sets quantity m) apart = tt
     other_port what port n (Limits which other m) apart = apart
+    other_port what port n said apart = tt
 
     is_apart : Limited → ℕ → PortLimit → Type 0
     is_apart what port own = is_at what port own ≡ false
 
     by_case : (said : Says) → All (λ b. same_given b said ≡ false) says → AllPairs (λ a b. is_at a.what a.port b ≡ false) (limits_of says) → AllPairs (λ a b. is_at a.what a.port b ≡ false) (cons_option (limit_of said) (limits_of says))
-    by_case Nothing apart later = later
-    by_case Other apart later = later
-    by_case (Sets quantity n) apart later = later
     by_case (Limits what port n) apart later =
         AllPairs-cons (λ a b. is_at a.what a.port b ≡ false) (record { what = what; port = port; limit = n }) (limits_of says)
         (limits_from_lines (is_apart what port) says (λ i d within. other_port what port n (get_or says i d) (apart i d within)))
         later
+    by_case said apart later = later
 
 -- ---- the text
 

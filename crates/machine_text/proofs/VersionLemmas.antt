@@ -10,10 +10,10 @@ use Rattle.text_lines.specs.Numbers.{number_of}
 use Rattle.text_lines.specs.Words.{words_of}
 use Rattle.machine_text.specs.declared.machine.Machine.{Machine}
 use Rattle.machine_text.specs.declared.quantity.Quantity.{Quantity}
-use Rattle.machine_text.specs.declared.quantity.Quantity.TheVariants.{Logic, Array, Slots, Functions, Bits, Nodes}
+use Rattle.machine_text.specs.declared.quantity.Quantity.TheVariants.{Nodes}
 use Rattle.machine_text.specs.declared.quantity.Version.TheVariants.{One, Two}
 use Rattle.machine_text.specs.declared.saying.Says.{Says}
-use Rattle.machine_text.specs.declared.saying.Says.TheVariants.{Nothing, Sets, Limits, Other}
+use Rattle.machine_text.specs.declared.saying.Says.TheVariants.{Nothing}
 use Rattle.machine_text.specs.Quantities.{named}
 use Rattle.machine_text.specs.Settings.{announces_two, is_allowed, limits_of, line_words, lines_say, same_given, says_from, set_by, settings_of, settled_by, version_of, words_say}
 use Rattle.machine_text.specs.Machines.{Reads, behind_version_two, machine_said}
@@ -21,20 +21,14 @@ use Rattle.machine_text.specs.Machines.{Reads, behind_version_two, machine_said}
 set_by_both : (quantity : Option Quantity) (n : Option ℕ) → is_allowed (set_by One quantity n) ≡ true → set_by Two quantity n ≡ set_by One quantity n
 set_by_both None n allowed = refl
 set_by_both (Some quantity) None allowed = refl
-set_by_both (Some Logic) (Some n) allowed = refl
-set_by_both (Some Array) (Some n) allowed = refl
-set_by_both (Some Slots) (Some n) allowed = refl
-set_by_both (Some Functions) (Some n) allowed = refl
-set_by_both (Some Bits) (Some n) allowed = refl
 set_by_both (Some Nodes) (Some n) allowed = cc
+set_by_both (Some quantity) (Some n) allowed = refl
 
 -- what is allowed in version 1 says the same in version 2
 words_both : (words : List (List ℕ)) → is_allowed (words_say One words) ≡ true → words_say Two words ≡ words_say One words
-words_both [] allowed = refl
-words_both (word ∷ []) allowed = refl
 words_both (word ∷ number ∷ []) allowed = set_by_both (named word) (number_of number) allowed
 words_both (word ∷ port ∷ number ∷ []) allowed = cc
-words_both (word ∷ port ∷ number ∷ more ∷ words) allowed = refl
+words_both words allowed = refl
 
 lines_both : (lines : List (List (List ℕ))) → AllByRecursion (λ said. is_allowed said ≡ true) (says_from (Some One) lines) → says_from (Some Two) lines ≡ says_from (Some One) lines
 unfolding says_from
@@ -74,9 +68,7 @@ says_behind text one allowed =
 
 nothing_apart : (said : Says) → same_given said Nothing ≡ false
 nothing_apart Nothing = refl
-nothing_apart Other = refl
-nothing_apart (Sets quantity n) = refl
-nothing_apart (Limits what port n) = refl
+nothing_apart said = refl
 
 said_behind : (says : List Says) → machine_said (Nothing ∷ says) ≡ machine_said says
 unfolding settings_of limits_of

@@ -117,9 +117,6 @@ impl<'a> Numbers<'a> {
         ensures is_new { IfOk result (λ is_new. is_new ≡ not (list_any (nat_eq number.now) self.old)) }
         ensures added { IfOk result (λ is_new. self.new ≡ (if is_new then self.old ++ number.now ∷ [] else self.old)) }
     {
-        match self.set.insert(number.significant()) {
-            Ok(is_new) => Ok(is_new),
-            Err(_) => Err(Memory),
-        }
+        Ok(self.set.insert(number.significant())?)
     }
 }

@@ -1,6 +1,6 @@
 //! The reader of machine texts.
 
-ghost use Rattle.std.specs.Prelude.{◌≡◌, ◌≤◌, ℕ, true, None, MatchResult, IfOk, All, length, if◌then◌else◌};
+ghost use Rattle.std.specs.Prelude.{◌≡◌, ◌≤◌, true, None, MatchResult, IfOk, All, length};
 ghost use Rattle.limits.specs.declared.TheConstants.{MAX_TEXT_BYTES};
 ghost use Rattle.text_lines.specs.Answers.{Answers, first};
 ghost use Rattle.text_lines.specs.code.Answers.{fault_or};
@@ -54,12 +54,8 @@ fn read_lines(alloc: Global, bytes: &[u8]) -> Result<List<Setting>, MachNo>
         (λ read. read ≡ settings_of (lines_say bytes.now)) }
 {
     let mut given = Given::new(alloc);
-    let taken = take_lines(&mut given, bytes);
-    let settings = given.into_settings();
-    match taken {
-        Ok(()) => Ok(settings),
-        Err(no) => Err(no),
-    }
+    take_lines(&mut given, bytes)?;
+    Ok(given.into_settings())
 }
 
 /// Takes the lines of the text, or answers the fault of the first line that has one.

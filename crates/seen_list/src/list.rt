@@ -100,10 +100,8 @@ impl<T: Drop> List<T> {
         ensures ok { OnOk result (self.new ≡ self.old ++ x ∷ []) }
         ensures err { OnErr result (self.new ≡ self.old) }
     {
-        match self.inner.push(x) {
-            Ok(()) => Ok(()),
-            Err(_) => Err(Memory),
-        }
+        self.inner.push(x)?;
+        Ok(())
     }
 
     /// Puts a value in the place `i`, counted from 0, of the one that stood there.
@@ -120,10 +118,8 @@ impl<T: Copy> List<T> {
     pub fn from_slice(alloc: Global, items: &[T]) -> Result<List<T>, Memory>
         ensures { IfOk result (λ list. list ≡ items.now) }
     {
-        match Vec::from_slice(alloc, items) {
-            Ok(inner) => Ok(List { inner }),
-            Err(_) => Err(Memory),
-        }
+        let inner = Vec::from_slice(alloc, items)?;
+        Ok(List { inner })
     }
 
     /// A list of `count` values, all of them `x`.
@@ -131,10 +127,8 @@ impl<T: Copy> List<T> {
         ensures { IfOk result (λ list. list ≡ replicate count x) }
     {
         let mut inner = Vec::new(alloc);
-        match inner.resize(count, x) {
-            Ok(()) => Ok(List { inner }),
-            Err(_) => Err(Memory),
-        }
+        inner.resize(count, x)?;
+        Ok(List { inner })
     }
 
     /// Adds all the values of a slice at the end, or, refused, none of them.
@@ -142,10 +136,8 @@ impl<T: Copy> List<T> {
         ensures ok { OnOk result (self.new ≡ self.old ++ items.now) }
         ensures err { OnErr result (self.new ≡ self.old) }
     {
-        match self.inner.extend_from_slice(items) {
-            Ok(()) => Ok(()),
-            Err(_) => Err(Memory),
-        }
+        self.inner.extend_from_slice(items)?;
+        Ok(())
     }
 
     /// A second list of the same values, on the same allocator.

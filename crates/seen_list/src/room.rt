@@ -32,10 +32,8 @@ impl Room {
     pub fn new(alloc: Global, room: usize) -> Result<Room, Memory>
         ensures { IfOk result (λ filling. filling ≡ empty_room room) }
     {
-        match Vec::with_capacity(alloc, room) {
-            Ok(inner) => Ok(Room { inner, room }),
-            Err(_) => Err(Memory),
-        }
+        let inner = Vec::with_capacity(alloc, room)?;
+        Ok(Room { inner, room })
     }
 
     /// The bytes so far.

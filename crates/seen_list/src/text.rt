@@ -33,10 +33,8 @@ impl Text {
     pub fn from_bytes(alloc: Global, bytes: &[u8]) -> Result<Text, Memory>
         ensures { IfOk result (λ text. text ≡ bytes.now) }
     {
-        match Vec::from_slice(alloc, bytes) {
-            Ok(inner) => Ok(Text { inner }),
-            Err(_) => Err(Memory),
-        }
+        let inner = Vec::from_slice(alloc, bytes)?;
+        Ok(Text { inner })
     }
 
     /// The number of bytes.
@@ -65,9 +63,7 @@ impl Text {
         ensures ok { OnOk result (self.new ≡ self.old ++ piece.now) }
         ensures err { OnErr result (self.new ≡ self.old) }
     {
-        match self.inner.extend_from_slice(piece) {
-            Ok(()) => Ok(()),
-            Err(_) => Err(Memory),
-        }
+        self.inner.extend_from_slice(piece)?;
+        Ok(())
     }
 }

@@ -1,12 +1,12 @@
 -- The lines of a text of lanes pass one after another, and each lane grows at its end.
 use Rattle.std.proofs.Common.{◌≡◌, ℕ, zero, suc, ◌+◌, ◌<◌, ◌≤◌, true, false, List, [], ◌∷◌, ◌++◌, length, take, drop, get_or, map, Option, Some, None, inl, inr, sym, ap, ◌∙◌, subst, refl, arith, add-one, append-nil, length-append}
-use Rattle.std.specs.List.{cons_option}
+use Rattle.std.specs.List.{cons_option, enumerate_from}
 use Rattle.std.proofs.lemmas.Bool.{cond-true, cond-false, cases_Bool}
 use Rattle.std.proofs.lemmas.List.{take_more, take_all, map-append, length-map}
 use Rattle.limits.specs.declared.TheConstants.{MAX_CYCLES}
 use Rattle.text_lines.specs.Answers.{first}
 use Rattle.text_lines.proofs.lemmas.AnswerLemmas.{first-zero, first_none_more, first_some}
-use Rattle.text_lines.proofs.lemmas.LineLemmas.{IsNextLine}
+use Rattle.text_lines.proofs.lemmas.LineLemmas.{IsNextLine, next_line, no_next_line}
 use Rattle.net_defs.specs.declared.stimulus.StimRow.{StimRow}
 use Rattle.net_defs.specs.declared.stimulus.Stimulus.{Stimulus}
 use Rattle.stim_text.specs.declared.lane_line.LaneLine.{LaneLine}
@@ -55,8 +55,10 @@ not_begin is = cc
 
 -- ---- the lines that have passed
 
--- k lines have passed, which had no fault and made these lanes; the last one has so many cycles
-pub record HasLanes (inputs : ℕ) (parts : List (List ℕ)) (k cycles : ℕ) (lanes : List Stimulus) : Type 0 where
+-- k lines have passed, which had no fault and made these lanes, and these are ahead; the last lane has so many cycles
+pub record HasLanes (inputs : ℕ) (parts : List (List ℕ)) (k : ℕ) (ahead : List (ℕ × List ℕ)) (cycles : ℕ) (lanes : List Stimulus) : Type 0 where
+  pub within : k ≤ length parts
+  pub left : ahead ≡ enumerate_from (k + 1) (drop k parts)
   pub front : List (List (List ℕ))
   pub since : List (List ℕ)
   pub cut : IsCut begins_lane (take k parts) front since
@@ -65,8 +67,10 @@ pub record HasLanes (inputs : ℕ) (parts : List (List ℕ)) (k cycles : ℕ) (l
   pub few : cycles ≤ MAX_CYCLES
   pub no_fault : first (lane_fault_at inputs parts) k ≡ None
 
-pub has_none : (inputs : ℕ) (parts : List (List ℕ)) → HasLanes inputs parts 0 0 []
-has_none inputs parts = record {
+pub has_none : (inputs : ℕ) {parts : List (List ℕ)} {ahead : List (ℕ × List ℕ)} → ahead ≡ enumerate_from 1 parts → HasLanes inputs parts 0 ahead 0 []
+has_none inputs left = record {
+  within = omega arith;
+  left = left;
   front = [];
   since = [];
   cut = cut_none begins_lane;
@@ -81,8 +85,11 @@ count_front : (inputs : ℕ) (front : List (List (List ℕ))) (since : List (Lis
 count_front inputs [] since = refl
 count_front inputs (before ∷ front) since = length-map (front ++ since ∷ []) (stimulus_of inputs) ∙ omega (arith, length-append front (since ∷ []))
 
-module _ {inputs : ℕ} {parts : List (List ℕ)} {k cycles line : ℕ} {part : List ℕ} {left : List (ℕ × List ℕ)} {lanes : List Stimulus} (had : HasLanes inputs parts k cycles lanes) (next : IsNextLine parts k line part left) where
-  -- the line after them has its fault
+-- a line comes
+module _ {inputs : ℕ} {parts : List (List ℕ)} {k cycles line : ℕ} {part : List ℕ} {ahead later : List (ℕ × List ℕ)} {lanes : List Stimulus} (had : HasLanes inputs parts k ahead cycles lanes) (comes : ahead ≡ (line, part) ∷ later) where
+  next : IsNextLine parts k line part later
+  next = next_line parts k line part later ahead had.left comes
+
   here : lane_fault_at inputs parts k ≡ lane_fault inputs (length lanes) cycles line part
   here =
       asked inputs parts k had.front had.since had.cut
@@ -101,8 +108,10 @@ module _ {inputs : ℕ} {parts : List (List ℕ)} {k cycles line : ℕ} {part : 
   grown = ap (λ p. take k parts ++ p ∷ []) next.here ∙ sym (take_more parts k [] next.within)
 
   -- a line that begins a lane
-  pub has_begin : lane_fault inputs (length lanes) cycles line part ≡ None → Begins ≡ lane_line_of part → HasLanes inputs parts (k + 1) 0 (lanes ++ record { columns = inputs; rows = [] } ∷ [])
+  pub has_begin : lane_fault inputs (length lanes) cycles line part ≡ None → Begins ≡ lane_line_of part → HasLanes inputs parts (k + 1) later 0 (lanes ++ record { columns = inputs; rows = [] } ∷ [])
   has_begin none is = record {
+    within = omega (arith, next.within);
+    left = next.rest;
     front = had.front ++ had.since ∷ [];
     since = [];
     cut = subst (λ xs. IsCut begins_lane xs (had.front ++ had.since ∷ []) []) grown (cut_yes begins_lane (take k parts) part had.front had.since (line_begins part is) had.cut);
@@ -119,11 +128,13 @@ module _ {inputs : ℕ} {parts : List (List ℕ)} {k cycles line : ℕ} {part : 
   stays_cut stays = subst (λ xs. IsCut begins_lane xs had.front (had.since ++ part ∷ [])) grown (cut_no begins_lane (take k parts) part had.front had.since stays had.cut)
 
   -- one that is blank
-  pub has_blank : lane_fault inputs (length lanes) cycles line part ≡ None → Blank ≡ lane_line_of part → HasLanes inputs parts (k + 1) cycles lanes
+  pub has_blank : lane_fault inputs (length lanes) cycles line part ≡ None → Blank ≡ lane_line_of part → HasLanes inputs parts (k + 1) later cycles lanes
   has_blank none is =
       let stays = line_stays part Blank is (λ e. cc) in
       let same : rows_of (had.since ++ part ∷ []) ≡ rows_of had.since = rows_more had.since part ∙ ap (λ o. rows_of had.since ++ cons_option o []) (blank_from (row_of part) stays.1) ∙ append-nil (rows_of had.since) in
       record {
+        within = omega (arith, next.within);
+        left = next.rest;
         front = had.front;
         since = had.since ++ part ∷ [];
         cut = stays_cut stays.0;
@@ -157,11 +168,13 @@ module _ {inputs : ℕ} {parts : List (List ℕ)} {k cycles line : ℕ} {part : 
 
   pub has_row : (row : StimRow) (now : List Stimulus) → lane_fault inputs (length lanes) cycles line part ≡ None → Row row ≡ lane_line_of part → cycles + row.times ≤ MAX_CYCLES
       → ((before : List Stimulus) (last : Stimulus) → lanes ≡ before ++ last ∷ [] → now ≡ before ++ record last { rows = last.rows ++ row ∷ [] } ∷ [])
-      → HasLanes inputs parts (k + 1) (cycles + row.times) now
+      → HasLanes inputs parts (k + 1) later (cycles + row.times) now
   has_row row now none is fits added =
       let stays = line_stays part (Row row) is not_begin in
       let more : rows_of (had.since ++ part ∷ []) ≡ rows_of had.since ++ row ∷ [] = rows_more had.since part ∙ ap (λ o. rows_of had.since ++ cons_option o []) (row_from (row_of part) row stays.1) in
       record {
+        within = omega (arith, next.within);
+        left = next.rest;
         front = had.front;
         since = had.since ++ part ∷ [];
         cut = stays_cut stays.0;
@@ -179,9 +192,10 @@ module _ {inputs : ℕ} {parts : List (List ℕ)} {k cycles line : ℕ} {part : 
           ∙ sym (map-append (stimulus_of inputs) front ((had.since ++ part ∷ []) ∷ []))
 
 -- all lines have passed
-pub has_all : {inputs : ℕ} {parts : List (List ℕ)} {k cycles : ℕ} {lanes : List Stimulus} → HasLanes inputs parts k cycles lanes → k ≤ length parts → length parts ≤ k → (first (lane_fault_at inputs parts) (length parts) ≡ None) × (lanes ≡ map (stimulus_of inputs) (lane_lines parts))
-has_all {inputs = inputs} {parts = parts} {k = k} had within past =
-    let all : k ≡ length parts = omega arith in (
+pub has_all : {inputs : ℕ} {parts : List (List ℕ)} {k cycles : ℕ} {ahead : List (ℕ × List ℕ)} {lanes : List Stimulus} → HasLanes inputs parts k ahead cycles lanes → ahead ≡ [] → (first (lane_fault_at inputs parts) (length parts) ≡ None) × (lanes ≡ map (stimulus_of inputs) (lane_lines parts))
+has_all {inputs = inputs} {parts = parts} {k = k} had none =
+    let past : length parts ≤ k = no_next_line _ _ _ had.left none in
+    let all : k ≡ length parts = omega (arith, past, had.within) in (
       subst (λ n. first (lane_fault_at inputs parts) n ≡ None) all had.no_fault,
       had.lanes_are ∙ ap (map (stimulus_of inputs)) (sym (lanes_cut (take k parts) had.front had.since had.cut) ∙ ap lane_lines (take_all k parts past)),
     )

@@ -32,8 +32,7 @@ fit_from_none ports steps line (Some read) none =
   where
     both_pass : (a b : Bool) (e f : OrderNo) → cond a (cond b None (Some e)) (Some f) ≡ None → (a ≡ true) × (b ≡ true)
     both_pass true true e f none = (refl, refl)
-    both_pass true false e f none = cc
-    both_pass false b e f none = cc
+    both_pass a b e f none = cc
 
 form_from_none : (ports steps line : ℕ) (part : List ℕ) → is_blank_part part ≡ false → fault_of ports steps line part ≡ None → (read : OrderLine) × IsFit ports steps (form_of part) read
 unfolding fault_of
@@ -41,11 +40,10 @@ form_from_none ports steps line part filled none = fit_from_none ports steps lin
 
 -- the parts of a form
 parts_from_form : (port times : Option ℕ) (line : OrderLine) → line_with port times ≡ Some line → (port ≡ Some line.port) × (times ≡ Some line.times)
-parts_from_form None times line is = cc
-parts_from_form (Some port) None line is = cc
 parts_from_form (Some port) (Some times) line is =
     let same : record { port = port; times = times } ≡ line = cc in
     (ap (λ (l : OrderLine). Some l.port) same, ap (λ (l : OrderLine). Some l.times) same)
+parts_from_form port times line is = cc
 
 line_from_form : (ports : ℕ) (part : List ℕ) (line : OrderLine) → form_of part ≡ Some line → line.port < ports → IsLine ports part line
 line_from_form ports part line is there =

@@ -2,13 +2,15 @@
 -- and the first fault.
 use Rattle.std.proofs.Common.{◌≡◌, ◌⊎◌, ℕ, zero, suc, ◌+◌, ◌<◌, ◌≤◌, List, [], ◌∷◌, ◌++◌, length, take, drop, get_or, Option, Some, None, inl, inr, sym, ap, ◌∙◌, subst, refl, arith, append-nil, add-one}
 use Rattle.std.specs.Prelude.{All, IfSome}
-use Rattle.std.specs.List.{filter_map, cons_option, sum_by}
+use Rattle.std.specs.List.{filter_map, cons_option, enumerate_from, sum_by}
 use Rattle.std.proofs.lemmas.List.{take_more, take_all, take-append-drop}
 use Rattle.std.proofs.lemmas.List.Elements.{filter_map-append, All-from_get_or, All-nil, All-cons, All-head, All-tail}
 use Rattle.std.proofs.lemmas.List.Sums.{sum_by-append}
 use Rattle.text_lines.specs.Answers.{first}
 use Rattle.text_lines.proofs.lemmas.AnswerLemmas.{first-zero, first_none, first_none_more, first_some, none_below}
-use Rattle.text_lines.proofs.lemmas.LineLemmas.{IsNextLine}
+use Rattle.text_lines.specs.Lines.{parts_of}
+use Rattle.text_lines.proofs.lemmas.LineLemmas.{IsNextLine, next_line, no_next_line}
+use Rattle.text_lines.proofs.lemmas.PartLemmas.{part_length}
 use Rattle.stim_text.specs.Repeats.{fault_at, first_fault_of}
 
 -- ---- one line more
@@ -24,64 +26,82 @@ sum_more item times parts k within =
 
 -- ---- the loop over the lines
 
--- k lines have passed, which had no fault and were these items, which stand for so many in all
-pub record HasRead {X E : Type 0} (item : List ℕ → Option X) (times : X → ℕ) (fault : ℕ → ℕ → List ℕ → Option E) (limit : ℕ) (parts : List (List ℕ)) (k total : ℕ) (items : List X) : Type 0 where
+-- k lines have passed, which had no fault and were these items, which stand for so many in all, and these are ahead
+pub record HasRead {X E : Type 0} (item : List ℕ → Option X) (times : X → ℕ) (fault : ℕ → ℕ → List ℕ → Option E) (limit : ℕ) (parts : List (List ℕ)) (k : ℕ) (ahead : List (ℕ × List ℕ)) (total : ℕ) (items : List X) : Type 0 where
+  pub within : k ≤ length parts
+  pub left : ahead ≡ enumerate_from (k + 1) (drop k parts)
   pub so_far : items ≡ filter_map item (take k parts)
   pub sum : total ≡ sum_by times items
   pub few : total ≤ limit
   pub no_fault : first (fault_at item times fault parts) k ≡ None
 
--- the line after the k that have passed has its fault
-here : {X E : Type 0} {item : List ℕ → Option X} {times : X → ℕ} {fault : ℕ → ℕ → List ℕ → Option E} {limit : ℕ} {parts : List (List ℕ)} {k total line : ℕ} {part : List ℕ} {left : List (ℕ × List ℕ)} {items : List X} → HasRead item times fault limit parts k total items → IsNextLine parts k line part left → fault_at item times fault parts k ≡ fault total line part
-here {times = times} {fault = fault} {parts = parts} {k = k} read next =
-    rw (next.number, next.here) (ap (λ n. fault n (k + 1) (get_or parts k [])) (sym (read.sum ∙ ap (sum_by times) read.so_far)))
+module _ {X E : Type 0} {item : List ℕ → Option X} {times : X → ℕ} {fault : ℕ → ℕ → List ℕ → Option E} {limit : ℕ} {parts : List (List ℕ)} where
+  pub read_none : {ahead : List (ℕ × List ℕ)} → ahead ≡ enumerate_from 1 parts → HasRead item times fault limit parts 0 ahead 0 []
+  read_none left = record { within = omega arith; left = left; so_far = refl; sum = refl; few = omega arith; no_fault = first-zero _ }
 
-pub read_none : {X E : Type 0} (item : List ℕ → Option X) (times : X → ℕ) (fault : ℕ → ℕ → List ℕ → Option E) (limit : ℕ) (parts : List (List ℕ)) → HasRead item times fault limit parts 0 0 []
-read_none item times fault limit parts = record { so_far = refl; sum = refl; few = omega arith; no_fault = first-zero _ }
+  module _ {k total : ℕ} {ahead : List (ℕ × List ℕ)} {items : List X} (read : HasRead item times fault limit parts k ahead total items) where
+    -- all lines have passed
+    pub read_all : ahead ≡ [] → (first_fault_of item times fault parts ≡ None) × ((items ≡ filter_map item parts) × (sum_by times items ≤ limit))
+    read_all none =
+        let past : length parts ≤ k = no_next_line _ _ _ read.left none in
+        let all : k ≡ length parts = omega (arith, past, read.within) in
+        (subst (λ n. first (fault_at item times fault parts) n ≡ None) all read.no_fault, (read.so_far ∙ ap (filter_map item) (take_all k parts past), omega (arith, read.sum, read.few)))
 
-pub read_fault : {X E : Type 0} {item : List ℕ → Option X} {times : X → ℕ} {fault : ℕ → ℕ → List ℕ → Option E} {limit : ℕ} {parts : List (List ℕ)} {k total line : ℕ} {part : List ℕ} {left : List (ℕ × List ℕ)} {items : List X} (e : E) → HasRead item times fault limit parts k total items → IsNextLine parts k line part left → fault total line part ≡ Some e → first_fault_of item times fault parts ≡ Some e
-read_fault {item = item} {times = times} {fault = fault} {parts = parts} {k = k} e read next is =
-    first_some (fault_at item times fault parts) k (length parts) e next.within read.no_fault (here read next ∙ is)
+    -- a line comes
+    module _ {line : ℕ} {part : List ℕ} {later : List (ℕ × List ℕ)} (comes : ahead ≡ (line, part) ∷ later) where
+      next : IsNextLine parts k line part later
+      next = next_line parts k line part later ahead read.left comes
 
--- a line without a fault
-no_fault_more : {X E : Type 0} {item : List ℕ → Option X} {times : X → ℕ} {fault : ℕ → ℕ → List ℕ → Option E} {limit : ℕ} {parts : List (List ℕ)} {k total line : ℕ} {part : List ℕ} {left : List (ℕ × List ℕ)} {items : List X} → HasRead item times fault limit parts k total items → IsNextLine parts k line part left → fault total line part ≡ None → first (fault_at item times fault parts) (k + 1) ≡ None
-no_fault_more {item = item} {times = times} {fault = fault} {parts = parts} {k = k} read next none =
-    rw add-one (first_none_more (fault_at item times fault parts) k read.no_fault (here read next ∙ none))
+      here : fault_at item times fault parts k ≡ fault total line part
+      here = rw (next.number, next.here) (ap (λ n. fault n (k + 1) (get_or parts k [])) (sym (read.sum ∙ ap (sum_by times) read.so_far)))
 
--- one that is blank
-pub read_blank : {X E : Type 0} {item : List ℕ → Option X} {times : X → ℕ} {fault : ℕ → ℕ → List ℕ → Option E} {limit : ℕ} {parts : List (List ℕ)} {k total line : ℕ} {part : List ℕ} {left : List (ℕ × List ℕ)} {items : List X} → HasRead item times fault limit parts k total items → IsNextLine parts k line part left → fault total line part ≡ None → None ≡ item part → HasRead item times fault limit parts (k + 1) total items
-read_blank {item = item} {parts = parts} {k = k} read next none blank = record {
-  so_far =
-      read.so_far
-      ∙ sym (append-nil (filter_map item (take k parts)))
-      ∙ ap (λ o. filter_map item (take k parts) ++ cons_option o []) (blank ∙ ap item next.here)
-      ∙ sym (items_more item parts k next.within);
-  sum = read.sum;
-  few = read.few;
-  no_fault = no_fault_more read next none;
-}
+      -- which has a fault
+      pub read_fault : (e : E) → fault total line part ≡ Some e → first_fault_of item times fault parts ≡ Some e
+      read_fault e is = first_some (fault_at item times fault parts) k (length parts) e next.within read.no_fault (here ∙ is)
 
--- one that is an item
-pub read_more : {X E : Type 0} {item : List ℕ → Option X} {times : X → ℕ} {fault : ℕ → ℕ → List ℕ → Option E} {limit : ℕ} {parts : List (List ℕ)} {k total line : ℕ} {part : List ℕ} {left : List (ℕ × List ℕ)} {items : List X} (x : X) → HasRead item times fault limit parts k total items → IsNextLine parts k line part left → fault total line part ≡ None → Some x ≡ item part → total + times x ≤ limit → HasRead item times fault limit parts (k + 1) (total + times x) (items ++ x ∷ [])
-read_more {X = X} {item = item} {times = times} {parts = parts} {k = k} {items = items} x read next none is fits = record {
-  so_far =
-      ap (λ (xs : List X). xs ++ x ∷ []) read.so_far
-      ∙ ap (λ o. filter_map item (take k parts) ++ cons_option o []) (is ∙ ap item next.here)
-      ∙ sym (items_more item parts k next.within);
-  sum = omega (arith, read.sum, sum_by-append times items (x ∷ []));
-  few = fits;
-  no_fault = no_fault_more read next none;
-}
+      -- which has none
+      module _ (none : fault total line part ≡ None) where
+        no_fault_more : first (fault_at item times fault parts) (k + 1) ≡ None
+        no_fault_more = rw add-one (first_none_more (fault_at item times fault parts) k read.no_fault (here ∙ none))
+
+        -- and is blank
+        pub read_blank : None ≡ item part → HasRead item times fault limit parts (k + 1) later total items
+        read_blank blank = record {
+          within = omega (arith, next.within);
+          left = next.rest;
+          so_far =
+              read.so_far
+              ∙ sym (append-nil (filter_map item (take k parts)))
+              ∙ ap (λ o. filter_map item (take k parts) ++ cons_option o []) (blank ∙ ap item next.here)
+              ∙ sym (items_more item parts k next.within);
+          sum = read.sum;
+          few = read.few;
+          no_fault = no_fault_more;
+        }
+
+        -- or is an item
+        pub read_more : (x : X) → Some x ≡ item part → total + times x ≤ limit → HasRead item times fault limit parts (k + 1) later (total + times x) (items ++ x ∷ [])
+        read_more x is fits = record {
+          within = omega (arith, next.within);
+          left = next.rest;
+          so_far =
+              ap (λ (xs : List X). xs ++ x ∷ []) read.so_far
+              ∙ ap (λ o. filter_map item (take k parts) ++ cons_option o []) (is ∙ ap item next.here)
+              ∙ sym (items_more item parts k next.within);
+          sum = omega (arith, read.sum, sum_by-append times items (x ∷ []));
+          few = fits;
+          no_fault = no_fault_more;
+        }
+
+-- a line that comes is no longer than the text
+pub next_short : (text : List ℕ) (k : ℕ) {line : ℕ} {part : List ℕ} {ahead later : List (ℕ × List ℕ)} → ahead ≡ enumerate_from (k + 1) (drop k (parts_of text)) → ahead ≡ (line, part) ∷ later → length part ≤ length text
+next_short text k {line} {part} {ahead} {later} left comes =
+    let next = next_line (parts_of text) k line part later ahead left comes in
+    omega (arith, part_length text k next.within, ap length next.here)
 
 -- there is room for the item that a line was read as
 pub room_for : {X : Type 0} (times : X → ℕ) (total limit : ℕ) (read : Option X) (x : X) → read ≡ Some x → IfSome read (λ r. total + times r ≤ limit) → total + times x ≤ limit
 room_for times total limit read x is room = subst (λ o. IfSome o (λ r. total + times r ≤ limit)) is room
-
--- all lines have passed
-pub read_all : {X E : Type 0} {item : List ℕ → Option X} {times : X → ℕ} {fault : ℕ → ℕ → List ℕ → Option E} {limit : ℕ} {parts : List (List ℕ)} {k total : ℕ} {items : List X} → HasRead item times fault limit parts k total items → k ≤ length parts → length parts ≤ k → (first_fault_of item times fault parts ≡ None) × ((items ≡ filter_map item parts) × (sum_by times items ≤ limit))
-read_all {item = item} {times = times} {fault = fault} {parts = parts} {k = k} read within past =
-    let all : k ≡ length parts = omega arith in
-    (subst (λ n. first (fault_at item times fault parts) n ≡ None) all read.no_fault, (read.so_far ∙ ap (filter_map item) (take_all k parts past), omega (arith, read.sum, read.few)))
 
 -- ---- no fault, and allowed lines
 

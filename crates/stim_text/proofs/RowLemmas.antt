@@ -30,9 +30,7 @@ no_row false e f none = cc
 
 all_pass : (a b c : Bool) (e f g : StimNo) → cond a (cond b (cond c None (Some e)) (Some f)) (Some g) ≡ None → (a ≡ true) × (b ≡ true) × (c ≡ true)
 all_pass true true true e f g none = (refl, refl, refl)
-all_pass true true false e f g none = cc
-all_pass true false c e f g none = cc
-all_pass false b c e f g none = cc
+all_pass a b c e f g none = cc
 
 row_from_none : (inputs cycles line : ℕ) (part : List ℕ) (times : Option ℕ) → repeat_of part ≡ times → row_fault inputs cycles line (before_repeat part) times ≡ None → (n : ℕ) × IsFit inputs cycles part n
 row_from_none inputs cycles line part None is none = absurd (no_row (list_all (may_stand inputs) (before_repeat part)) _ _ none)

@@ -15,19 +15,19 @@ use Rattle.image_defs.specs.declared.image.Source.{Source}
 use Rattle.image_defs.specs.declared.image.Source.TheVariants.{Own, Got, Const}
 use Rattle.image_defs.specs.declared.image.Task.TheVariants.{Eval, Hold}
 use Rattle.image_lines.specs.declared.line.PortKind.{PortKind}
-use Rattle.image_lines.specs.declared.line.PortKind.TheVariants.{Logic, Array, Host}
+use Rattle.image_lines.specs.declared.line.PortKind.TheVariants.{Logic}
 use Rattle.image_lines.specs.declared.line.Line.{Line}
 use Rattle.image_lines.specs.declared.line.Line.TheVariants.{Version, Head, Port, Table, Work, Block, Bit, Input, Print, Send, Take, End}
 use Rattle.image_lines.specs.declared.word.Word.{Word}
 use Rattle.image_lines.specs.declared.word.Word.TheVariants as word
 use Rattle.image_lines.specs.Forms as forms
-use Rattle.image_lines.specs.Forms.{named, form, form_behind, line_in, line_read, finished, finished_by, is_within, table_of}
-use Rattle.image_lines.specs.Tokens.{Left, is_space, tokens_of, is_hex, behind}
+use Rattle.image_lines.specs.Forms.{named, form, form_behind, lined, line_in, line_read, finished, is_within, table_of}
+use Rattle.image_lines.specs.Tokens.{Left, Reader, is_space, tokens_of, is_hex, behind}
 use Rattle.image_lines.specs.Words.{line_words, line_bytes, source_word, init_word, kind_word, hex_digits}
 use Rattle.image_lines.specs.Ranges.{IsSmall, IsSmallSource, IsSmallLine, IsInRange}
 use Rattle.image_lines.proofs.HexLemmas.{digits_hex}
 use Rattle.image_lines.proofs.TokenLemmas.{own, if_or, hex_spells}
-use Rattle.image_lines.proofs.ReaderLemmas.{same_left}
+use Rattle.image_lines.proofs.ReaderLemmas.{Spells, same_left}
 use Rattle.image_lines.proofs.LineLemmas.{word_of, named_again, named_found, lined_again, lined_found, source_fields, head_fields, kind_fields, numbers_fields, eval_fields, hold_fields, bit_fields, input_fields, end_again, table_is, send_again, block_again, Behind, moved, send_found, table_found, block_found}
 
 front : (w : Word) (rest : List (List ℕ)) → line_in (word_of w ∷ rest) ≡ form w (rest, false)
@@ -58,6 +58,13 @@ line_again (Send link) small = front word.Send _ ∙ send_again link.slot link.r
 line_again (Take link) small = front word.Take _ ∙ lined_again forms.take_of numbers_fields (link.slot, link.sender) small
 line_again End small = front word.End []
 
+-- fields that read as a line are its
+by_fields : {X : Type 0} {reader : Reader X} {words : X → List (List ℕ)} {Good : X → Type 0} (make : X → Line) → Spells reader words Good → (first : List ℕ) (rest : List (List ℕ)) (line : Line) → ((x : X) → Good x → Behind first (words x) (make x))
+    → lined make reader (rest, false) ≡ Some (line, ([], false)) → Behind first rest line
+by_fields make spells first rest line right e =
+    let f = lined_found make spells rest line e in
+    moved first rest _ _ line f.1.0 f.1.1.1 (right f.0 f.1.1.0)
+
 -- tokens that read as a line are its
 by_form : (w : Word) (rest : List (List ℕ)) (line : Line) → form w (rest, false) ≡ Some (line, ([], false)) → Behind (word_of w) rest line
 unfolding line_words word_of Behind forms.version forms.head forms.port forms.eval forms.hold forms.bit forms.input forms.print forms.receipt behind
@@ -69,33 +76,17 @@ by_form word.Version (token ∷ rest) line e =
           moved (codes "yse-image") (token ∷ rest) (codes "1" ∷ []) Version line (rw ((bytes_eq-Decides token (codes "1")).0 here.0, same.1.0) refl) same.0 (refl, tt)
       | inr none ↦ cc
     ]
-by_form word.Slots rest line e =
-    let f = lined_found forms.head_of head_fields rest line e in
-    moved (codes "slots") rest _ _ line f.1.0 f.1.1.1 (refl, f.1.1.0)
-by_form word.Port rest line e =
-    let f = lined_found Port kind_fields rest line e in
-    moved (codes "port") rest _ _ line f.1.0 f.1.1.1 (refl, f.1.1.0)
+by_form word.Slots rest line e = by_fields forms.head_of head_fields (codes "slots") rest line (λ x good. (refl, good)) e
+by_form word.Port rest line e = by_fields Port kind_fields (codes "port") rest line (λ x good. (refl, good)) e
 by_form word.Table rest line e = table_found rest line e
-by_form word.Eval rest line e =
-    let f = lined_found forms.eval_of eval_fields rest line e in
-    moved (codes "eval") rest _ _ line f.1.0 f.1.1.1 (refl, ((f.1.1.0.0, f.1.1.0.1.0), f.1.1.0.1.1))
-by_form word.Hold rest line e =
-    let f = lined_found forms.hold_of hold_fields rest line e in
-    moved (codes "hold") rest _ _ line f.1.0 f.1.1.1 (refl, ((f.1.1.0.0, f.1.1.0.1.0), f.1.1.0.1.1))
+by_form word.Eval rest line e = by_fields forms.eval_of eval_fields (codes "eval") rest line (λ x good. (refl, ((good.0, good.1.0), good.1.1))) e
+by_form word.Hold rest line e = by_fields forms.hold_of hold_fields (codes "hold") rest line (λ x good. (refl, ((good.0, good.1.0), good.1.1))) e
 by_form word.Block rest line e = block_found rest line e
-by_form word.Out rest line e =
-    let f = lined_found forms.bit_of bit_fields rest line e in
-    moved (codes "out") rest _ _ line f.1.0 f.1.1.1 (refl, f.1.1.0)
-by_form word.In rest line e =
-    let f = lined_found forms.input_of input_fields rest line e in
-    moved (codes "in") rest _ _ line f.1.0 f.1.1.1 (refl, f.1.1.0)
-by_form word.Print rest line e =
-    let f = lined_found Print source_fields rest line e in
-    moved (codes "print") rest _ _ line f.1.0 f.1.1.1 (refl, f.1.1.0)
+by_form word.Out rest line e = by_fields forms.bit_of bit_fields (codes "out") rest line (λ x good. (refl, good)) e
+by_form word.In rest line e = by_fields forms.input_of input_fields (codes "in") rest line (λ x good. (refl, good)) e
+by_form word.Print rest line e = by_fields Print source_fields (codes "print") rest line (λ x good. (refl, good)) e
 by_form word.Send rest line e = send_found rest line e
-by_form word.Take rest line e =
-    let f = lined_found forms.take_of numbers_fields rest line e in
-    moved (codes "take") rest _ _ line f.1.0 f.1.1.1 (refl, f.1.1.0)
+by_form word.Take rest line e = by_fields forms.take_of numbers_fields (codes "take") rest line (λ x good. (refl, good)) e
 by_form word.End rest line e =
     let same = same_left End line rest [] false false e in
     moved (codes "end") rest [] End line same.1.0 same.0 (refl, tt)
@@ -147,9 +138,7 @@ source_plain (Own slot false) small = number_plain slot small
 source_plain (Got slot true) small = number_plain slot small
 source_plain (Got slot false) small = number_plain slot small
 source_plain (Const v4.Zero) small = refl
-source_plain (Const v4.One) small = refl
-source_plain (Const v4.Undef) small = refl
-source_plain (Const v4.HighZ) small = refl
+source_plain (Const other) small = refl
 
 init_plain : (init : Init) → all_plain (init_word init) ≡ true
 unfolding init_word plain
@@ -159,8 +148,7 @@ init_plain inits.Zero = refl
 kind_plain : (kind : PortKind) → all_plain (kind_word kind) ≡ true
 unfolding kind_word plain
 kind_plain Logic = refl
-kind_plain Array = refl
-kind_plain Host = refl
+kind_plain other = refl
 
 abbrev are_plain : List (List ℕ) → Bool
 are_plain words = list_all all_plain words
@@ -223,19 +211,9 @@ pieces word (next ∷ words) all =
 -- a line has a first token
 some_words : (line : Line) → (first : List ℕ) × ((rest : List (List ℕ)) × (line_words line ≡ first ∷ rest))
 unfolding line_words
-some_words Version = (_, (_, refl))
-some_words (Head sizes) = (_, (_, refl))
-some_words (Port kind) = (_, (_, refl))
-some_words (Table table) = (_, (_, refl))
 some_words (Work (Eval slot table a b c d) item) = (_, (_, refl))
 some_words (Work (Hold slot from) item) = (_, (_, refl))
-some_words (Block block) = (_, (_, refl))
-some_words (Bit bit item) = (_, (_, refl))
-some_words (Input input item) = (_, (_, refl))
-some_words (Print source) = (_, (_, refl))
-some_words (Send link) = (_, (_, refl))
-some_words (Take link) = (_, (_, refl))
-some_words End = (_, (_, refl))
+some_words other = (_, (_, refl))
 
 pieces_of : (words : List (List ℕ)) (first : List ℕ) (rest : List (List ℕ)) → words ≡ first ∷ rest → are_plain words ≡ true
     → slice_split is_space (join_with_byte 32 words) ≡ words

@@ -26,14 +26,9 @@ found_is {X} P test (y ∷ ys) x all found = by_test (test y) refl (found_is P t
 
 limited_same : (a b : Limited) → same_limited a b ≡ true → a ≡ b
 limited_same Functions Functions is = refl
-limited_same Functions Nodes is = cc
-limited_same Functions Bits is = cc
-limited_same Nodes Functions is = cc
 limited_same Nodes Nodes is = refl
-limited_same Nodes Bits is = cc
-limited_same Bits Functions is = cc
-limited_same Bits Nodes is = cc
 limited_same Bits Bits is = refl
+limited_same a b is = cc
 
 common_in_range : (machine : Machine) (what : Limited) → IsValid machine → (1 ≤ common_limit machine what) × (common_limit machine what ≤ limit_most what)
 common_in_range machine Functions valid = (valid.functions_least, valid.functions_most)

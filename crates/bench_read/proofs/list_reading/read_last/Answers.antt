@@ -4,27 +4,22 @@ use Rattle.text_lines.specs.Lines.{parts_of}
 use Rattle.text_lines.proofs.lemmas.AnswerLemmas.{none_is_not_some}
 use Rattle.bench_read.specs.GateLists.{gates_of}
 use Rattle.bench_read.specs.code.GateLists.{marked}
-use Rattle.bench_read.proofs.ListLemmas.{reads_from_none, none_from_reads}
+use Rattle.bench_read.proofs.ListLemmas.{reads_from_none, none_from_reads, one_list}
 use Rattle.bench_read.proofs.MarkLemmas.{marked_are, ascends_from_reads}
 use Rattle.bench_read.proofs.list_reading.read_last.Goals as goal
 
-pub returns-clause-answers : goal.returns-clause-answers
-returns-clause-answers c =
+pub returns : goal.returns
+returns c =
+    let net = c.args.net.now in
+    let text = c.args.bytes.now in
     let read = c.in_ok-marks.ensures in
-    let are = marked_are c.args.net.now (gates_of c.args.net.now (parts_of c.args.bytes.now)) c.in_ok-marks.marks read.1 in
-    (read.0, reads_from_none c.args.net.now c.args.bytes.now c.in_ok-listed.listed read.0 (c.in_ok-listed.ensures ∙ ap marked c.as_slice.ensures ∙ are))
-
-pub returns-clause-ascends : goal.returns-clause-ascends
-returns-clause-ascends c =
-    let read = c.in_ok-marks.ensures in
-    let are = marked_are c.args.net.now (gates_of c.args.net.now (parts_of c.args.bytes.now)) c.in_ok-marks.marks read.1 in
-    ascends_from_reads c.args.net.now c.args.bytes.now c.in_ok-listed.listed (reads_from_none c.args.net.now c.args.bytes.now c.in_ok-listed.listed read.0 (c.in_ok-listed.ensures ∙ ap marked c.as_slice.ensures ∙ are))
-
-pub returns-clause-only : goal.returns-clause-only
-returns-clause-only c listed reads =
-    let read = c.in_ok-marks.ensures in
-    let are = marked_are c.args.net.now (gates_of c.args.net.now (parts_of c.args.bytes.now)) c.in_ok-marks.marks read.1 in
-    (read.0, c.in_ok-listed.ensures ∙ ap marked c.as_slice.ensures ∙ are ∙ sym reads.are)
+    let are = marked_are net (gates_of net (parts_of text)) c.in_ok-marks.marks read.1 in
+    let reads = reads_from_none net text c.in_ok-listed.listed read.0 (c.in_ok-listed.ensures ∙ ap marked c.as_slice.ensures ∙ are) in
+    record {
+      answers = (read.0, reads);
+      ascends = ascends_from_reads net text c.in_ok-listed.listed reads;
+      only = λ other too. (read.0, one_list net text c.in_ok-listed.listed other reads too);
+    }
 
 pub returns-in_err-marks-clause-only : goal.returns-in_err-marks-clause-only
 returns-in_err-marks-clause-only c listed reads =

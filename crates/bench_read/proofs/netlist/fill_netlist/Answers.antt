@@ -11,8 +11,8 @@ signal_numbers-requires-clause-few c =
     let inputs = c.len.ensures ∙ ap length c.in_ok-add_inputs.ensures ∙ length-map (flat_map input_names (lines_in draft)) input_signal in
     omega (arith, inputs, simp length-append at (names_length (lines_in draft)), ap length c.requires.whole.drives, c.requires.whole.few_signals)
 
-pub number_uses-uses-requires-clause-order : goal.number_uses-uses-requires-clause-order
-number_uses-uses-requires-clause-order c =
+pub number_uses-requires-clause-order : goal.number_uses-requires-clause-order
+number_uses-requires-clause-order c =
     let draft = c.args.draft.now in
     let inputs = c.len.ensures ∙ ap length c.in_ok-add_inputs.ensures ∙ length-map (flat_map input_names (lines_in draft)) input_signal in
     c.as_slice.ensures

@@ -17,4 +17,4 @@ returns-in_err-draft c =
 
 pub returns : goal.returns
 unfolding first_fault
-returns c = rw (c.in_ok-check_bytes.ensures, c.in_ok-draft.ensures.0, ← c.in_ok-draft.ensures.1.said) c.make_netlist-net.ensures
+returns c = rw (c.in_ok-check_bytes.ensures, c.in_ok-draft.ensures.0, ← c.in_ok-draft.ensures.1.said) c.make_netlist.ensures

@@ -1,4 +1,3 @@
-use Rattle.std.proofs.lemmas.Slice.Zip.{Zip-more, either_empty_from_Zip}
 use Rattle.std.proofs.Common.{ℕ}
 use Rattle.image_defs.specs.declared.image.InColumn.{InColumn}
 use Rattle.image_lines.specs.Words.{line_text}
@@ -7,12 +6,7 @@ use Rattle.image_file.proofs.WritingLemmas.{pair_more, pairs_end}
 use Rattle.image_file.proofs.writing.push_inputs.Goals as goal
 
 pub loop-input-preserved : goal.loop-input-preserved
-loop-input-preserved c =
-    let more = Zip-more c.loop-input.input-iterator c.next.new.self c.next.result (c.in-Some.input, c.in-Some.item) c.in-Some.is c.next.ensures.steps in
-    rw c.in_ok-push_input.ensures
-    (pair_more (λ (x : InColumn × ℕ). line_text (line.Input x.0 x.1)) c.loop-input.text _ _ _ _ _ _ _ more.0 more.1 c.loop-input.invariant)
+loop-input-preserved c = rw c.in_ok-push_input.ensures (pair_more (λ (x : InColumn × ℕ). line_text (line.Input x.0 x.1)) c.loop-input.text c.loop-input.input-iterator c.next.new.self c.next.result c.next.ensures.steps _ c.loop-input.invariant (c.in-Some.input, c.in-Some.item) c.in-Some.is)
 
 pub returns : goal.returns
-returns c =
-    let none = either_empty_from_Zip c.loop-input.input-iterator c.next.new.self c.next.result c.in-None.is c.next.ensures.steps in
-    pairs_end (λ (x : InColumn × ℕ). line_text (line.Input x.0 x.1)) c.loop-input.text _ _ _ none c.loop-input.invariant
+returns c = pairs_end (λ (x : InColumn × ℕ). line_text (line.Input x.0 x.1)) c.loop-input.text c.loop-input.input-iterator c.next.new.self c.next.result c.next.ensures.steps _ c.loop-input.invariant c.in-None.is

@@ -1,10 +1,7 @@
-use Rattle.std.proofs.Common.{◌≡◌, ◌++◌}
-use Rattle.std.specs.List.{flat_map, zip}
-use Rattle.std.specs.Iterator.Adapters.{zip_first, zip_second}
-use Rattle.std.specs.Slice.Iter.{iter_rest}
 use Rattle.image_lines.specs.Words.{line_text}
 use Rattle.image_lines.specs.declared.line.Line.TheVariants as line
+use Rattle.image_file.proofs.WritingLemmas.{WritesOn}
 use Rattle.image_file.proofs.writing.push_inputs.Given as goal
 
 abbrev pub invariant-loop-input : goal.invariant-loop-input
-invariant-loop-input l = l.text ++ flat_map (λ x. line_text (line.Input x.0 x.1)) (zip (iter_rest (zip_first l.input-iterator)) (iter_rest (zip_second l.input-iterator))) ≡ l.fn.text ++ flat_map (λ x. line_text (line.Input x.0 x.1)) (zip l.inputs l.items)
+invariant-loop-input l = WritesOn (λ x. line_text (line.Input x.0 x.1)) l.fn.text l.inputs l.items l.input-iterator l.text

@@ -1,4 +1,3 @@
-use Rattle.std.proofs.lemmas.Slice.Zip.{Zip-more, either_empty_from_Zip}
 use Rattle.std.specs.List.{flat_map}
 use Rattle.image_defs.specs.declared.image.PortImage.{PortImage}
 use Rattle.image_defs.specs.declared.file.PortClaims.{PortClaims}
@@ -9,11 +8,8 @@ use Rattle.image_file.proofs.writing.push_ports.Goals as goal
 
 pub loop-port-preserved : goal.loop-port-preserved
 loop-port-preserved c =
-    let more = Zip-more c.loop-port.port-iterator c.next.new.self c.next.result (c.in-Some.port, c.in-Some.own) c.in-Some.is c.next.ensures.steps in
     rw (c.in_ok-push_whole_port.ensures, c.as_slice.ensures)
-    (pair_more (λ (x : PortImage × PortClaims). flat_map line_text (port_lines x.0 x.1.items)) c.loop-port.text _ _ _ _ _ _ _ more.0 more.1 c.loop-port.invariant)
+    (pair_more (λ (x : PortImage × PortClaims). flat_map line_text (port_lines x.0 x.1.items)) c.loop-port.text c.loop-port.port-iterator c.next.new.self c.next.result c.next.ensures.steps _ c.loop-port.invariant (c.in-Some.port, c.in-Some.own) c.in-Some.is)
 
 pub returns : goal.returns
-returns c =
-    let none = either_empty_from_Zip c.loop-port.port-iterator c.next.new.self c.next.result c.in-None.is c.next.ensures.steps in
-    pairs_end (λ (x : PortImage × PortClaims). flat_map line_text (port_lines x.0 x.1.items)) c.loop-port.text _ _ _ none c.loop-port.invariant
+returns c = pairs_end (λ (x : PortImage × PortClaims). flat_map line_text (port_lines x.0 x.1.items)) c.loop-port.text c.loop-port.port-iterator c.next.new.self c.next.result c.next.ensures.steps _ c.loop-port.invariant c.in-None.is

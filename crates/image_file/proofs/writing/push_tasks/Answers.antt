@@ -1,4 +1,3 @@
-use Rattle.std.proofs.lemmas.Slice.Zip.{Zip-more, either_empty_from_Zip}
 use Rattle.std.proofs.Common.{ℕ}
 use Rattle.image_defs.specs.declared.image.Task.{Task}
 use Rattle.image_lines.specs.Words.{line_text}
@@ -7,12 +6,7 @@ use Rattle.image_file.proofs.WritingLemmas.{pair_more, pairs_end}
 use Rattle.image_file.proofs.writing.push_tasks.Goals as goal
 
 pub loop-task-preserved : goal.loop-task-preserved
-loop-task-preserved c =
-    let more = Zip-more c.loop-task.task-iterator c.next.new.self c.next.result (c.in-Some.task, c.in-Some.item) c.in-Some.is c.next.ensures.steps in
-    rw c.in_ok-push_task.ensures
-    (pair_more (λ (x : Task × ℕ). line_text (line.Work x.0 x.1)) c.loop-task.text _ _ _ _ _ _ _ more.0 more.1 c.loop-task.invariant)
+loop-task-preserved c = rw c.in_ok-push_task.ensures (pair_more (λ (x : Task × ℕ). line_text (line.Work x.0 x.1)) c.loop-task.text c.loop-task.task-iterator c.next.new.self c.next.result c.next.ensures.steps _ c.loop-task.invariant (c.in-Some.task, c.in-Some.item) c.in-Some.is)
 
 pub returns : goal.returns
-returns c =
-    let none = either_empty_from_Zip c.loop-task.task-iterator c.next.new.self c.next.result c.in-None.is c.next.ensures.steps in
-    pairs_end (λ (x : Task × ℕ). line_text (line.Work x.0 x.1)) c.loop-task.text _ _ _ none c.loop-task.invariant
+returns c = pairs_end (λ (x : Task × ℕ). line_text (line.Work x.0 x.1)) c.loop-task.text c.loop-task.task-iterator c.next.new.self c.next.result c.next.ensures.steps _ c.loop-task.invariant c.in-None.is

@@ -1,10 +1,7 @@
-use Rattle.std.proofs.Common.{◌≡◌, ◌++◌}
-use Rattle.std.specs.List.{flat_map, zip}
-use Rattle.std.specs.Iterator.Adapters.{zip_first, zip_second}
-use Rattle.std.specs.Slice.Iter.{iter_rest}
 use Rattle.image_lines.specs.Words.{line_text}
 use Rattle.image_lines.specs.declared.line.Line.TheVariants as line
+use Rattle.image_file.proofs.WritingLemmas.{WritesOn}
 use Rattle.image_file.proofs.writing.push_tasks.Given as goal
 
 abbrev pub invariant-loop-task : goal.invariant-loop-task
-invariant-loop-task l = l.text ++ flat_map (λ x. line_text (line.Work x.0 x.1)) (zip (iter_rest (zip_first l.task-iterator)) (iter_rest (zip_second l.task-iterator))) ≡ l.fn.text ++ flat_map (λ x. line_text (line.Work x.0 x.1)) (zip l.tasks l.items)
+invariant-loop-task l = WritesOn (λ x. line_text (line.Work x.0 x.1)) l.fn.text l.tasks l.items l.task-iterator l.text

@@ -1,5 +1,4 @@
-use Rattle.std.proofs.Common.{◌≡◌, ◌+◌, ◌≤◌, length, drop}
-use Rattle.std.specs.List.{enumerate_from}
+use Rattle.std.proofs.Common.{length}
 use Rattle.text_lines.specs.Lines.{parts_of}
 use Rattle.limits.specs.declared.TheConstants.{MAX_CYCLES}
 use Rattle.stim_text.specs.Rows.{row_of, fault_of}
@@ -7,8 +6,4 @@ use Rattle.stim_text.proofs.ReadingLemmas.{HasRead}
 use Rattle.stim_text.proofs.reading.read_rows.Given as goal
 
 abbrev pub invariant-loop-line : goal.invariant-loop-line
-invariant-loop-line l = record {
-  within : length l.yielded ≤ length (parts_of l.bytes);
-  left : l.line-iterator ≡ enumerate_from (length l.yielded + 1) (drop (length l.yielded) (parts_of l.bytes));
-  read : HasRead row_of (λ row. row.times) (fault_of l.inputs) MAX_CYCLES (parts_of l.bytes) (length l.yielded) l.cycles l.rows;
-}
+invariant-loop-line l = HasRead row_of (λ row. row.times) (fault_of l.inputs) MAX_CYCLES (parts_of l.bytes) (length l.yielded) l.line-iterator l.cycles l.rows
