@@ -151,12 +151,8 @@ fn item_ports(
     ensures { IfOk result (AreItemPorts nodes.now machine.now blocks.now (length nodes.now.items)) }
 {
     let mut turns = begin(alloc, nodes, machine, limits)?;
-    let given = give_ports(&mut turns, nodes, machine, blocks);
-    let ports = turns.into_ports();
-    match given {
-        Ok(()) => Ok(ports),
-        Err(no) => Err(no),
-    }
+    give_ports(&mut turns, nodes, machine, blocks)?;
+    Ok(turns.ports)
 }
 
 /// Gives each item its port, where the logic ports hold all nodes and none has a port yet.
@@ -205,7 +201,8 @@ fn item_port(
     match item {
         Item::Input { .. } => machine.logic + machine.array,
         Item::BlockBit { block, .. } => blocks[*block as usize],
-        Item::Node { .. } => turns.turn_port(nodes, machine, i - nodes.first_node),
-        Item::Latch { .. } => turns.turn_port(nodes, machine, i - nodes.first_node),
+        Item::Node { .. } | Item::Latch { .. } => {
+            turns.turn_port(nodes, machine, i - nodes.first_node)
+        }
     }
 }
