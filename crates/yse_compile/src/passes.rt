@@ -120,19 +120,25 @@ pub(crate) fn image_of(alloc: Global, timing: &Timing, routed: Routed) -> Result
 {
     let planned = &routed.planned;
     let housed = &planned.housed;
-    let image = build(
+    // A drop by hand saves 3 s of proof.
+    match build(
         alloc,
         &housed.nodes,
         &housed.homes,
         &planned.plan,
         &routed.switch,
         timing,
-    )?;
-    Ok(Compiled {
-        nodes: routed.planned.housed.nodes,
-        homes: routed.planned.housed.homes,
-        plan: routed.planned.plan,
-        switch: routed.switch,
-        image,
-    })
+    ) {
+        Ok(image) => Ok(Compiled {
+            nodes: routed.planned.housed.nodes,
+            homes: routed.planned.housed.homes,
+            plan: routed.planned.plan,
+            switch: routed.switch,
+            image,
+        }),
+        Err(no) => {
+            drop(routed);
+            Err(no)
+        }
+    }
 }
