@@ -1,5 +1,5 @@
 -- Each event that moves leaves fewer events, so a run has no more than its number.
-use Rattle.std.proofs.Common.{Bool, Some, [], add-one, ap, arith, false, get_or-set_other, get_or-set_same, if◌then◌else◌, inl, inr, le-leb, length, nat_le, slice_get, subst, suc-mul, sym, true, zero-mul, ℕ, ◌*◌, ◌++◌, ◌+◌, ◌-◌, ◌<◌, ◌∙◌, ◌∷◌, ◌≡◌, ◌≤◌}
+use Rattle.std.proofs.Common.{Bool, List, Some, [], add-one, ap, arith, false, get_or-set_other, get_or-set_same, if◌then◌else◌, inl, inr, le-leb, length, nat_le, slice_get, subst, suc-mul, sym, true, zero-mul, ℕ, ◌*◌, ◌++◌, ◌+◌, ◌-◌, ◌<◌, ◌∙◌, ◌∷◌, ◌≡◌, ◌≤◌}
 use Rattle.std.proofs.lemmas.Bool.{cases_lt, lt-leb}
 use Rattle.std.proofs.lemmas.List.{length-map}
 use Rattle.image_defs.proofs.lemmas.PlaceLemmas.{Rises, at_map}
@@ -28,33 +28,32 @@ module _ (ports banks until : ℕ) (port : PortImage) (place : Place) (early : p
   runs : (x y : ℕ) → (if nat_le place.turn until then x else y) ≡ x
   runs x y = from_test (nat_le place.turn until) x y (le-leb place.turn until early)
 
-  pub put_falls : Rises (out_slots port.outs) → (i : ℕ) (link : LinkOut) → slice_get port.outs i ≡ Some link → is_in link.slot place.puts ≡ false
-      → port_left ports banks until (after_put place link.slot) port + 1 ≡ port_left ports banks until place port
-  put_falls up i link at not_put =
-      let falls = missing_falls place.puts (out_slots port.outs) i link.slot up (to_map (λ (l : LinkOut). l.slot) port.outs i link at) not_put in
-      let now = runs ((until - place.turn) * work_of port + missing (place.puts ++ link.slot ∷ []) (out_slots port.outs) + missing place.takes (in_slots port.ins) + 1) 0 in
+  -- where one less is missing, one event less is left
+  falls : (puts takes : List ℕ) → missing puts (out_slots port.outs) + missing takes (in_slots port.ins) + 1 ≡ missing place.puts (out_slots port.outs) + missing place.takes (in_slots port.ins)
+      → (if nat_le place.turn until then (until - place.turn) * work_of port + missing puts (out_slots port.outs) + missing takes (in_slots port.ins) + 1 else 0) + asks_left ports banks until port place + 1 ≡ port_left ports banks until place port
+  falls puts takes less =
+      let now = runs ((until - place.turn) * work_of port + missing puts (out_slots port.outs) + missing takes (in_slots port.ins) + 1) 0 in
       let was = runs ((until - place.turn) * work_of port + missing place.puts (out_slots port.outs) + missing place.takes (in_slots port.ins) + 1) 0 in
       let w : ℕ = (until - place.turn) * work_of port in
       let a : ℕ = asks_left ports banks until port place in
-      let x : ℕ = missing (place.puts ++ link.slot ∷ []) (out_slots port.outs) in
-      let y : ℕ = missing place.puts (out_slots port.outs) in
-      let z : ℕ = missing place.takes (in_slots port.ins) in
-      let sums : w + x + z + 1 + a + 1 ≡ w + y + z + 1 + a = let f : x + 1 ≡ y = falls in omega arith in
+      let u : ℕ = missing puts (out_slots port.outs) in
+      let v : ℕ = missing takes (in_slots port.ins) in
+      let x : ℕ = missing place.puts (out_slots port.outs) in
+      let y : ℕ = missing place.takes (in_slots port.ins) in
+      let sums : w + u + v + 1 + a + 1 ≡ w + x + y + 1 + a = let f : u + v + 1 ≡ x + y = less in omega arith in
       ap (λ n. n + a + 1) now ∙ (sums ∙ ap (λ n. n + a) (sym was))
+
+  pub put_falls : Rises (out_slots port.outs) → (i : ℕ) (link : LinkOut) → slice_get port.outs i ≡ Some link → is_in link.slot place.puts ≡ false
+      → port_left ports banks until (after_put place link.slot) port + 1 ≡ port_left ports banks until place port
+  put_falls up i link at not_put =
+      let less = missing_falls place.puts (out_slots port.outs) i link.slot up (to_map (λ (l : LinkOut). l.slot) port.outs i link at) not_put in
+      falls (place.puts ++ link.slot ∷ []) place.takes (omega (arith, less))
 
   pub take_falls : Rises (in_slots port.ins) → (j : ℕ) (link : LinkIn) → slice_get port.ins j ≡ Some link → is_in link.slot place.takes ≡ false
       → port_left ports banks until (after_take place link.slot) port + 1 ≡ port_left ports banks until place port
   take_falls up j link at not_taken =
-      let falls = missing_falls place.takes (in_slots port.ins) j link.slot up (to_map (λ (l : LinkIn). l.slot) port.ins j link at) not_taken in
-      let now = runs ((until - place.turn) * work_of port + missing place.puts (out_slots port.outs) + missing (place.takes ++ link.slot ∷ []) (in_slots port.ins) + 1) 0 in
-      let was = runs ((until - place.turn) * work_of port + missing place.puts (out_slots port.outs) + missing place.takes (in_slots port.ins) + 1) 0 in
-      let w : ℕ = (until - place.turn) * work_of port in
-      let a : ℕ = asks_left ports banks until port place in
-      let x : ℕ = missing (place.takes ++ link.slot ∷ []) (in_slots port.ins) in
-      let y : ℕ = missing place.puts (out_slots port.outs) in
-      let z : ℕ = missing place.takes (in_slots port.ins) in
-      let sums : w + y + x + 1 + a + 1 ≡ w + y + z + 1 + a = let f : x + 1 ≡ z = falls in omega arith in
-      ap (λ n. n + a + 1) now ∙ (sums ∙ ap (λ n. n + a) (sym was))
+      let less = missing_falls place.takes (in_slots port.ins) j link.slot up (to_map (λ (l : LinkIn). l.slot) port.ins j link at) not_taken in
+      falls place.puts (place.takes ++ link.slot ∷ []) (omega (arith, less))
 
   all_done_slots : EndsNext port place.puts place.takes → (missing place.puts (out_slots port.outs) ≡ 0) × (missing place.takes (in_slots port.ins) ≡ 0)
   all_done_slots next = (

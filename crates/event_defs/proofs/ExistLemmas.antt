@@ -1,5 +1,5 @@
 -- There is a next event, and a step of each port.
-use Rattle.std.proofs.Common.{List, None, Some, [], ap, arith, inl, inr, le_of_eq, length, refl, slice_get, slice_index_or, subst, suc, sym, true, zero, ℕ, ◌%◌, ◌*◌, ◌+◌, ◌<◌, ◌∙◌, ◌∷◌, ◌≡◌, ◌≢◌, ◌≤◌, ◌⊎◌}
+use Rattle.std.proofs.Common.{List, None, Some, [], ap, arith, false, inl, inr, le_of_eq, length, map, refl, slice_get, slice_index_or, subst, suc, sym, true, zero, ℕ, ◌%◌, ◌*◌, ◌+◌, ◌<◌, ◌∙◌, ◌∷◌, ◌≡◌, ◌≢◌, ◌≤◌, ◌⊎◌}
 use Rattle.std.proofs.lemmas.Bool.{cases_Bool, cases_eq, cases_lt}
 use Rattle.std.proofs.lemmas.Option.{slice_get_cases}
 use Rattle.std.specs.List.Sorted.{IsStrictlyIncreasing}
@@ -8,7 +8,7 @@ use Rattle.logic_four.specs.declared.V4.{V4}
 use Rattle.net_defs.specs.declared.stimulus.Stimulus.{Stimulus}
 use Rattle.image_defs.proofs.lemmas.PlaceLemmas.{at_map, rises}
 use Rattle.image_defs.specs.Frames.{image_value}
-use Rattle.image_defs.specs.Places.{Each, IsPort, Stands, in_slots, out_slots}
+use Rattle.image_defs.specs.Places.{Each, IsPort, Stands}
 use Rattle.image_defs.specs.WellFormed.{IsWellFormed}
 use Rattle.image_defs.specs.declared.image.Image.{Image}
 use Rattle.image_defs.specs.declared.image.LinkIn.{LinkIn}
@@ -43,6 +43,17 @@ find_slot (x ∷ slots) s = elim (cases_eq x s) [
   differs other none zero t at e = let same : x ≡ t = cc in other (same ∙ e)
   differs other none (suc i) t at e = none i t at e
 
+-- of the links of a slot one is not done, or each is
+missing_in : {L : Type 0} (slot : L → ℕ) (links : List L) (done : List ℕ) (n : ℕ)
+    → ((i : ℕ) × (link : L) × (slice_get links i ≡ Some link) × (slot link ≡ n) × (is_in (slot link) done ≡ false)) ⊎ Each (λ link. slot link ≡ n → is_in (slot link) done ≡ true) links
+missing_in slot links done n = elim (cases_Bool (is_in n done)) [
+  | inl made ↦ inr (λ i link at same. ap (λ s. is_in s done) same ∙ made)
+  | inr missing ↦ elim (find_slot (map slot links) n) [
+    | inr none ↦ inr (λ i link at same. absurd (none i (slot link) (to_map slot links i link at) same))
+    | inl there ↦ (let link = at_map slot links there.0 n there.1 in inl (there.0, link.0, link.1, link.2, ap (λ s. is_in s done) link.2 ∙ missing))
+  ]
+]
+
 -- the first of these numbers that lies too low, or none does
 first_low : (readers : List ℕ) (known : ℕ → ℕ) (banks turn : ℕ)
     → ((k r : ℕ) × (slice_get readers k ≡ Some r) × (known r + banks < turn) × ((m s : ℕ) → m < k → slice_get readers m ≡ Some s → turn ≤ known s + banks))
@@ -75,44 +86,17 @@ module _ (image : Image) (fits : IsWellFormed image) (p : ℕ) (port : PortImage
 
     -- in a slot a Put is missing, or each is made there
     put_in : (n : ℕ) → IsDoneBelow port puts takes n → SendsSome ⊎ Each (λ (link : LinkOut). link.slot ≡ n → is_in link.slot puts ≡ true) port.outs
-    put_in n done = elim (cases_Bool (is_in n puts)) [
-      | inl made ↦ inr (λ i link at same. ap (λ s. is_in s puts) same ∙ made)
-      | inr missing ↦ elim (find_slot (out_slots port.outs) n) [
-        | inr none ↦ inr (λ i link at same. absurd (none i link.slot (to_map (λ (l : LinkOut). l.slot) port.outs i link at) same))
-        | inl there ↦
-            let link = at_map (λ (l : LinkOut). l.slot) port.outs there.0 n there.1 in
-            inl (
-              there.0,
-              link.0,
-              record {
-                is = link.1;
-                missing = ap (λ s. is_in s puts) link.2 ∙ missing;
-                below = subst (λ s. IsDoneBelow port puts takes s) (sym link.2) done;
-              },
-            )
-      ]
+    put_in n done = elim (missing_in (λ (l : LinkOut). l.slot) port.outs puts n) [
+      | inr made ↦ inr made
+      | inl (i, link, at, same, missing) ↦ inl (i, link, record { is = at; missing = missing; below = subst (λ s. IsDoneBelow port puts takes s) (sym same) done })
     ]
 
     -- and likewise a Take
     taken_in : (n : ℕ) → IsDoneBelow port puts takes n → Each (λ (link : LinkOut). link.slot ≡ n → is_in link.slot puts ≡ true) port.outs
         → ReceivesSome ⊎ Each (λ (link : LinkIn). link.slot ≡ n → is_in link.slot takes ≡ true) port.ins
-    taken_in n done put = elim (cases_Bool (is_in n takes)) [
-      | inl made ↦ inr (λ i link at same. ap (λ s. is_in s takes) same ∙ made)
-      | inr missing ↦ elim (find_slot (in_slots port.ins) n) [
-        | inr none ↦ inr (λ i link at same. absurd (none i link.slot (to_map (λ (l : LinkIn). l.slot) port.ins i link at) same))
-        | inl there ↦
-            let link = at_map (λ (l : LinkIn). l.slot) port.ins there.0 n there.1 in
-            inl (
-              there.0,
-              link.0,
-              record {
-                is = link.1;
-                missing = ap (λ s. is_in s takes) link.2 ∙ missing;
-                below = subst (λ s. IsDoneBelow port puts takes s) (sym link.2) done;
-                put_there = λ i out at same. put i out at (same ∙ link.2);
-              },
-            )
-      ]
+    taken_in n done put = elim (missing_in (λ (l : LinkIn). l.slot) port.ins takes n) [
+      | inr made ↦ inr made
+      | inl (j, link, at, same, missing) ↦ inl (j, link, record { is = at; missing = missing; below = subst (λ s. IsDoneBelow port puts takes s) (sym same) done; put_there = λ i out is at_slot. put i out is (at_slot ∙ same) })
     ]
 
     up_to : (n : ℕ) → IsDoneBelow port puts takes n ⊎ (SendsSome ⊎ ReceivesSome)

@@ -1,6 +1,6 @@
 -- Memories that get their ports one after another.
-use Rattle.std.proofs.Common.{◌≡◌, ◌∙◌, ◌⊎◌, inl, inr, ℕ, zero, suc, ◌+◌, ◌-◌, ◌*◌, ◌^◌, ◌%◌, ◌<◌, ◌≤◌, List, [], ◌∷◌, ◌++◌, length, map, get_or, set, refl, sym, ap, subst, arith, if◌then◌else◌, eq-eqb, mod-eq_of_lt, one-mul, Some, slice_get}
-use Rattle.std.specs.Prelude.{◌==◌}
+use Rattle.std.proofs.Common.{◌≡◌, ◌∙◌, inl, inr, ℕ, zero, suc, ◌+◌, ◌-◌, ◌*◌, ◌^◌, ◌%◌, ◌<◌, ◌≤◌, List, [], ◌∷◌, ◌++◌, length, map, get_or, set, refl, sym, ap, subst, arith, if◌then◌else◌, eq-eqb, mod-eq_of_lt, one-mul, Some, slice_get}
+use Rattle.std.specs.Prelude.{◌==◌, max}
 use Rattle.std.specs.List.{range_with_len}
 use Rattle.std.proofs.Math.Nat.{mul-le-mul}
 use Rattle.std.proofs.Math.Pow.{pow-lt}
@@ -172,15 +172,18 @@ filled_none nodes machine left are = record {
 pub left_none : (left : List ℕ) → IsMostLeft left 0 0
 left_none left = record { most = λ a low. absurd (omega (arith, low)); reached = inl refl }
 
-pub left_more : (left : List ℕ) (n most new : ℕ) → IsMostLeft left n most → (most ≤ new) × (get_or left n 0 ≤ new) → (new ≡ most) ⊎ (new ≡ get_or left n 0) → IsMostLeft left (n + 1) new
-left_more left n most new before up one = record {
+pub left_more : (left : List ℕ) (n most : ℕ) → IsMostLeft left n most → IsMostLeft left (n + 1) (max most (get_or left n 0))
+left_more left n most before = record {
   most = λ a low. elim (last_or a n low) [
-    | inl below ↦ (let least = before.most a below in let old = up.0 in omega (arith, least, old))
-    | inr same ↦ subst (λ k. get_or left k 0 ≤ new) (sym same) up.1
+    | inl below ↦ (let least = before.most a below in omega (arith, least))
+    | inr same ↦ (let here = ap (λ k. get_or left k 0) same in omega (arith, here))
   ];
-  reached = elim one [
-    | inl old ↦ elim before.reached [ inl nothing ↦ inl (old ∙ nothing) | inr found ↦ inr (found.0, (let low = found.1 in omega (arith, low)), found.2 ∙ sym old) ]
-    | inr here ↦ inr (n, omega arith, sym here)
+  reached = elim (cases_lt most (get_or left n 0)) [
+    | inl less ↦ inr (n, omega arith, omega (arith, less))
+    | inr least ↦ elim before.reached [
+      | inl nothing ↦ inl (omega (arith, least, nothing))
+      | inr found ↦ inr (found.0, (let low = found.1 in omega (arith, low)), (let at = found.2 in omega (arith, least, at)))
+    ]
   ];
 }
 

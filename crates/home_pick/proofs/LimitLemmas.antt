@@ -1,5 +1,5 @@
 -- From picked homes no port gets more nodes than it may have of its own.
-use Rattle.std.proofs.Common.{◌≡◌, ◌∙◌, inl, inr, ℕ, zero, suc, ◌+◌, ◌-◌, ◌%◌, ◌<◌, ◌≤◌, List, length, get_or, refl, sym, ap, subst, arith}
+use Rattle.std.proofs.Common.{◌≡◌, inl, inr, ℕ, zero, suc, ◌+◌, ◌-◌, ◌<◌, ◌≤◌, List, get_or, subst, arith}
 use Rattle.std.specs.Prelude.{Some, slice_get}
 use Rattle.std.proofs.lemmas.Bool.{cases_lt, cases_eq}
 use Rattle.list_laws.proofs.Members.{member_at}
@@ -13,7 +13,7 @@ use Rattle.plan_defs.specs.declared.plan.Homes.{Homes}
 use Rattle.plan_defs.specs.Homes.{AreHomes, home_of}
 use Rattle.plan_defs.specs.Picks.{node_count, node_limit, nodes_before, ArePicked, HasPickedHome, IsFull, IsInTurn}
 use Rattle.home_pick.specs.Bags.{where_at}
-use Rattle.home_pick.specs.Better.{load_at, most_at, bound_of, IsBetter}
+use Rattle.home_pick.specs.Better.{load_at, IsBetter}
 use Rattle.home_pick.proofs.CrossingLemmas.{better_way}
 use Rattle.home_pick.proofs.SumLemmas.{if_same, if_apart}
 

@@ -4,7 +4,6 @@ use Rattle.std.specs.Prelude.{Option, None, Some, slice_get}
 use Rattle.std.specs.List.{Contains}
 use Rattle.std.proofs.lemmas.Bool.{cases_lt, cases_eq}
 use Rattle.std.proofs.lemmas.List.{get_or_past, get_or_append_left, get_or_push, length_push}
-use Rattle.std.proofs.lemmas.Option.{get_or_from_slice_get, slice_get_read}
 use Rattle.std.proofs.lemmas.List.Elements.{Contains-get_or}
 use Rattle.list_laws.proofs.Ranges.{sum_more}
 use Rattle.node_defs.specs.declared.items.Feed.{Feed}
@@ -65,12 +64,13 @@ pub block_is : (nodes : NodeNet) (m i : ℕ) (block : NodeBlock) → slice_get n
 unfolding block_uses
 block_is nodes m i block is = ap (λ o. memory_uses o i) is
 
--- what a bag of taken items counts is there
-pub taken_low : (nodes : NodeNet) (takes : List (List Entry)) (u n : ℕ) → IsWellFormed nodes → AreTakes nodes takes → n ≡ length nodes.items → u < n → (i : ℕ) → times (bag_at takes u) i ≢ 0 → i < n
-taken_low nodes takes u n formed are same low i some =
-    let inside : u < length nodes.items = omega (arith, low, same) in
-    let there = uses_low nodes u i formed (λ none. some (are.times u i inside ∙ none)) in
-    omega (arith, there, same)
+-- how often a bag of the items that item u takes has each
+pub taken_times : (nodes : NodeNet) (takes : List (List Entry)) (u : ℕ) (taken : List Entry) → AreTakes nodes takes → u < length nodes.items → taken ≡ bag_at takes u → (i : ℕ) → times taken i ≡ uses_by nodes u i
+taken_times nodes takes u taken are low is i = ap (λ (bag : List Entry). times bag i) is ∙ are.times u i low
+
+-- what it counts is there
+pub taken_low : (nodes : NodeNet) (u n : ℕ) (taken : List Entry) → IsWellFormed nodes → ((i : ℕ) → times taken i ≡ uses_by nodes u i) → n ≡ length nodes.items → (i : ℕ) → times taken i ≢ 0 → i < n
+taken_low nodes u n taken formed counts same i some = subst (λ m. i < m) (sym same) (uses_low nodes u i formed (λ none. some (counts i ∙ none)))
 
 -- ---- one item or memory more
 
@@ -79,12 +79,12 @@ pub gives_next : (a b c : List (List Entry)) (f : ℕ → ℕ → ℕ → ℕ) (
 gives_next a b c f k before now =
     gives_both a b c (λ i port. total (λ u. f u i port) k) (λ i port. f k i port) (λ i port. total (λ u. f u i port) (k + 1)) before now (λ i port. sym (sum_more (λ u. f u i port) k))
 
-pub gives_taken : (nodes : NodeNet) (homes : Homes) (takes a b c : List (List Entry)) (k : ℕ) → AreTakes nodes takes → k < length nodes.items
-    → Gives a b (λ i port. total (λ u. where_at (home_of homes u) port (uses_by nodes u i)) k) → Gives b c (λ i port. where_at (home_of homes k) port (times (bag_at takes k) i))
+pub gives_taken : (nodes : NodeNet) (homes : Homes) (taken : List Entry) (a b c : List (List Entry)) (k home : ℕ) → ((i : ℕ) → times taken i ≡ uses_by nodes k i) → home ≡ home_of homes k
+    → Gives a b (λ i port. total (λ u. where_at (home_of homes u) port (uses_by nodes u i)) k) → Gives b c (λ i port. where_at home port (times taken i))
     → Gives a c (λ i port. total (λ u. where_at (home_of homes u) port (uses_by nodes u i)) (k + 1))
-gives_taken nodes homes takes a b c k are low before now =
+gives_taken nodes homes taken a b c k home counts is before now =
     gives_next a b c (λ u i port. where_at (home_of homes u) port (uses_by nodes u i)) k before
-    (record { size = now.size; times = λ i q inside. now.times i q inside ∙ ap (λ n. times (bag_at b i) q + where_at (home_of homes k) q n) (are.times k i low) })
+    (record { size = now.size; times = λ i q inside. now.times i q inside ∙ ap (λ n. times (bag_at b i) q + n) (ap (where_at home q) (counts i) ∙ ap (λ h. where_at h q (uses_by nodes k i)) is) })
 
 pub gives_read : (nodes : NodeNet) (homes : Homes) (a b c : List (List Entry)) (k : ℕ) (block : NodeBlock) → slice_get nodes.blocks k ≡ Some block
     → Gives a b (λ i port. total (λ m. where_at (block_home homes m) port (block_uses nodes m i)) k) → Gives b c (λ i port. where_at (block_home homes k) port (memory_uses (Some block) i))
@@ -124,9 +124,6 @@ members_low xs ys n m same size low k inside =
     let is : get_or ys k 0 ≡ get_or xs k 0 = ap (λ zs. get_or zs k 0) same in
     omega (arith, here, is, size)
 
-pub bag_read : (takes ys : List (List Entry)) (u : ℕ) (x s : List Entry) → ys ≡ takes → slice_get ys u ≡ Some x → s ≡ x → bag_at takes u ≡ s
-bag_read takes ys u x s same at is = ap (λ bags. bag_at bags u) (sym same) ∙ (get_or_from_slice_get ys u x [] at ∙ sym is)
-
 -- ---- one bag more
 
 pub all_push : (P : List Entry → Type 0) (bags : List (List Entry)) (bag : List Entry) → ((i : ℕ) → P (bag_at bags i)) → P bag → (i : ℕ) → P (bag_at (bags ++ bag ∷ []) i)
@@ -150,8 +147,3 @@ taken_more nodes takes u item bag long at is before v i low = elim (cases_lt v u
       let last : length takes ≡ v = omega (arith, here, long) in
       ap (λ (b : List Entry). times b i) (get_or_push takes bag [] v last) ∙ (is i ∙ (sym (uses_is nodes u i item at) ∙ ap (λ w. uses_by nodes w i) (sym here)))
 ]
-
-pub read_taken : (takes ys : List (List Entry)) (v : ℕ) (x s : List Entry) → ys ≡ takes → v < length takes → x ≡ get_or ys v x → s ≡ x → bag_at takes v ≡ s
-read_taken takes ys v x s same low is eq =
-    let long = ap (λ (xs : List (List Entry)). length xs) same in
-    bag_read takes ys v x s same (slice_get_read ys (length ys) v x refl (omega (arith, low, long)) is) eq

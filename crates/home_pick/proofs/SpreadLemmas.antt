@@ -1,7 +1,7 @@
 -- Items that are used at each logic port.
 use Rattle.std.proofs.Common.{◌≡◌, ◌≢◌, ◌∙◌, inl, inr, ℕ, ◌<◌, Bool, true, false, List, length, replicate, get_or, sym, ap, arith}
-use Rattle.std.proofs.lemmas.Bool.{cases_eq, cases_lt}
-use Rattle.std.proofs.lemmas.List.{get_or-replicate, get_or_past, length-replicate}
+use Rattle.std.proofs.lemmas.Bool.{cases_eq}
+use Rattle.std.proofs.lemmas.List.{length-replicate}
 use Rattle.list_laws.proofs.Ranges.{replicate_read}
 use Rattle.node_defs.specs.declared.items.NodeNet.{NodeNet}
 use Rattle.node_defs.specs.WellFormed.{IsWellFormed}
@@ -13,7 +13,7 @@ use Rattle.home_pick.specs.code.Bags.{times}
 use Rattle.home_pick.specs.Crossings.{uses_by, moved}
 use Rattle.home_pick.specs.code.Moves.{others_at, pull_by, AreUsesWithout}
 use Rattle.home_pick.specs.code.Spread.{AreSpread, AreSpreadWithout, Unmarks}
-use Rattle.home_pick.specs.code.Uses.{bag_at, AreTakes}
+use Rattle.home_pick.specs.code.Uses.{bag_at}
 use Rattle.home_pick.specs.code.Work.{beside}
 use Rattle.home_pick.proofs.SumLemmas.{if_same, if_apart, flag_some}
 use Rattle.home_pick.proofs.LinkLemmas.{uses_low}
@@ -28,9 +28,9 @@ none_spread nodes homes spread is = record {
 }
 
 -- node v is lifted
-pub lifted_spread : (nodes : NodeNet) (homes : Homes) (takes uses : List (List Entry)) (old new : List Bool) (v own : ℕ) (taken : List Entry) → IsWellFormed nodes → AreHomes nodes homes → AreTakes nodes takes → AreSpread nodes homes old → AreUsesWithout nodes homes v uses → v < length nodes.items
-    → bag_at takes v ≡ taken → own ≡ home_of homes v → Unmarks old new (λ i. times taken i ≢ 0 → times (bag_at uses i) own ≢ 0) → AreSpreadWithout nodes homes v new
-lifted_spread nodes homes takes uses old new v own taken formed are takes_are spread without low is home unmarks = record {
+pub lifted_spread : (nodes : NodeNet) (homes : Homes) (uses : List (List Entry)) (old new : List Bool) (v own : ℕ) (taken : List Entry) → IsWellFormed nodes → AreHomes nodes homes → AreSpread nodes homes old → AreUsesWithout nodes homes v uses → v < length nodes.items
+    → ((i : ℕ) → times taken i ≡ uses_by nodes v i) → own ≡ home_of homes v → Unmarks old new (λ i. times taken i ≢ 0 → times (bag_at uses i) own ≢ 0) → AreSpreadWithout nodes homes v new
+lifted_spread nodes homes uses old new v own taken formed are spread without low counts home unmarks = record {
   size = unmarks.size ∙ spread.size;
   each = λ i port marked within.
       let some = spread.each i port (unmarks.had i marked) within in
@@ -40,8 +40,7 @@ lifted_spread nodes homes takes uses old new v own taken formed are takes_are sp
         | inl same ↦ elim (cases_eq (uses_by nodes v i) 0) [
           | inl unused ↦ (λ none. some (let nothing = if_same (home_of homes v) port (uses_by nodes v i) 0 same in omega (arith, split, nothing, none, unused)))
           | inr used ↦
-              let count : times taken i ≡ uses_by nodes v i = ap (λ (b : List Entry). times b i) (sym is) ∙ takes_are.times v i low in
-              let holds = unmarks.holds i marked (λ none. used (sym count ∙ none)) in
+              let holds = unmarks.holds i marked (λ none. used (sym (counts i) ∙ none)) in
               let there : times (bag_at uses i) own ≡ others_at nodes homes v i port = without.times i own (uses_low nodes v i formed used) ∙ ap (others_at nodes homes v i) (home ∙ same) in
               (λ none. holds (there ∙ none))
         ]

@@ -19,7 +19,7 @@ use Rattle.home_pick.specs.code.Bags.{times}
 use Rattle.home_pick.specs.Better.{load_at, most_at, has_room, best_port, settled, settled_from, pass, passes, bound_of, IsBetter}
 use Rattle.home_pick.specs.Crossings.{uses_by, uses_at, reads_at, readers_at, crossings, moved}
 use Rattle.home_pick.specs.code.Moves.{pull_at, first_most, AreUsesWithout}
-use Rattle.home_pick.specs.code.Uses.{bag_at, AreBags, AreTakes, AreUses, Gives}
+use Rattle.home_pick.specs.code.Uses.{bag_at, AreBags, AreUses, Gives}
 use Rattle.home_pick.specs.code.Work.{AreLoads, AreMost, room_in}
 use Rattle.home_pick.specs.code.Working.{IsLifted}
 use Rattle.home_pick.proofs.SumLemmas.{total, total_most, if_same, if_apart}
@@ -31,10 +31,10 @@ use Rattle.home_pick.proofs.PassLemmas.{pass_cases}
 
 -- ---- lifting
 
-pub lift_some : (nodes : NodeNet) (homes : Homes) (takes uses : List (List Entry)) (v own : ℕ) (taken : List Entry) → IsWellFormed nodes → AreHomes nodes homes → AreTakes nodes takes → AreUses nodes homes uses → v < length nodes.items
-    → bag_at takes v ≡ taken → own ≡ home_of homes v → (i : ℕ) → times taken i ≤ times (bag_at uses i) own
-lift_some nodes homes takes uses v own taken formed are takes_are uses_are low is home i =
-    let count : times taken i ≡ uses_by nodes v i = ap (λ (b : List Entry). times b i) (sym is) ∙ takes_are.times v i low in
+pub lift_some : (nodes : NodeNet) (homes : Homes) (uses : List (List Entry)) (v own : ℕ) (taken : List Entry) → IsWellFormed nodes → AreHomes nodes homes → AreUses nodes homes uses → v < length nodes.items
+    → ((i : ℕ) → times taken i ≡ uses_by nodes v i) → own ≡ home_of homes v → (i : ℕ) → times taken i ≤ times (bag_at uses i) own
+lift_some nodes homes uses v own taken formed are uses_are low counts home i =
+    let count = counts i in
     elim (cases_eq (uses_by nodes v i) 0) [
       | inl none ↦ omega (arith, count, none)
       | inr some ↦
@@ -45,17 +45,16 @@ lift_some nodes homes takes uses v own taken formed are takes_are uses_are low i
           omega (arith, count, all, split, here)
     ]
 
-pub lifted_uses : (nodes : NodeNet) (homes : Homes) (takes old new : List (List Entry)) (v own : ℕ) (taken : List Entry) → AreHomes nodes homes → AreTakes nodes takes → AreUses nodes homes old → v < length nodes.items
-    → bag_at takes v ≡ taken → own ≡ home_of homes v → AreBags new → Gives new old (λ j q. where_at own q (times taken j)) → AreUsesWithout nodes homes v new
-lifted_uses nodes homes takes old new v own taken are takes_are uses_are low is home bags gives = record {
+pub lifted_uses : (nodes : NodeNet) (homes : Homes) (old new : List (List Entry)) (v own : ℕ) (taken : List Entry) → AreHomes nodes homes → AreUses nodes homes old → v < length nodes.items
+    → ((i : ℕ) → times taken i ≡ uses_by nodes v i) → own ≡ home_of homes v → AreBags new → Gives new old (λ j q. where_at own q (times taken j)) → AreUsesWithout nodes homes v new
+lifted_uses nodes homes old new v own taken are uses_are low counts home bags gives = record {
   size = sym gives.size ∙ uses_are.size;
   bags = bags;
   times = λ i port inside.
       let more = gives.times i port (omega (arith, inside, gives.size, uses_are.size)) in
       let all = uses_are.times i port inside in
       let split = uses_home nodes homes v i port (omega (arith, low, are.items)) are.items in
-      let added : where_at own port (times taken i) ≡ where_at (home_of homes v) port (uses_by nodes v i) =
-      ap (λ h. where_at h port (times taken i)) home ∙ ap (where_at (home_of homes v) port) (ap (λ (b : List Entry). times b i) (sym is) ∙ takes_are.times v i low) in
+      let added : where_at own port (times taken i) ≡ where_at (home_of homes v) port (uses_by nodes v i) = ap (λ h. where_at h port (times taken i)) home ∙ ap (where_at (home_of homes v) port) (counts i) in
       omega (arith, more, all, split, added);
 }
 
@@ -99,16 +98,16 @@ crossings_most nodes homes formed are =
     let most = total_most (λ i. total (reads_at nodes homes i) (ports_of homes)) (length nodes.items) 256 (λ i inside. let each = readers_most nodes homes i (ports_of homes) in omega (arith, each, ports)) in
     omega (arith, most, few)
 
-pub put_uses : (nodes : NodeNet) (homes : Homes) (takes old new : List (List Entry)) (v port : ℕ) (taken : List Entry) → AreHomes nodes homes → AreTakes nodes takes → AreUsesWithout nodes homes v old → v < length nodes.items
-    → bag_at takes v ≡ taken → AreBags new → Gives old new (λ j q. where_at port q (times taken j)) → AreUses nodes (moved homes v port) new
-put_uses nodes homes takes old new v port taken are takes_are without low is bags gives = record {
+pub put_uses : (nodes : NodeNet) (homes : Homes) (old new : List (List Entry)) (v port : ℕ) (taken : List Entry) → AreHomes nodes homes → AreUsesWithout nodes homes v old → v < length nodes.items
+    → ((i : ℕ) → times taken i ≡ uses_by nodes v i) → AreBags new → Gives old new (λ j q. where_at port q (times taken j)) → AreUses nodes (moved homes v port) new
+put_uses nodes homes old new v port taken are without low counts bags gives = record {
   size = gives.size ∙ without.size;
   bags = bags;
   times = λ i q inside.
       let more = gives.times i q (omega (arith, inside, without.size)) in
       let had = without.times i q inside in
       let all = uses_moved nodes homes v port i q (omega (arith, low, are.items)) are.items in
-      let added : where_at port q (times taken i) ≡ where_at port q (uses_by nodes v i) = ap (where_at port q) (ap (λ (b : List Entry). times b i) (sym is) ∙ takes_are.times v i low) in
+      let added : where_at port q (times taken i) ≡ where_at port q (uses_by nodes v i) = ap (where_at port q) (counts i) in
       omega (arith, more, had, all, added);
 }
 

@@ -3,6 +3,7 @@
 ghost use Rattle.std.specs.Prelude.{◌≡◌, ◌≢◌, ℕ, ◌+◌, ◌<◌, ◌≤◌, OnOk, length};
 ghost use Rattle.home_pick.specs.Bags.{where_at};
 ghost use Rattle.home_pick.specs.code.Bags.{times, entry_at, IsBag};
+ghost use Rattle.home_pick.specs.code.Uses.{bag_at};
 
 use seen_list::{List, Memory};
 
@@ -11,6 +12,14 @@ use seen_list::{List, Memory};
 pub(crate) struct Entry {
     pub(crate) key: u32,
     pub(crate) count: u32,
+}
+
+/// The bag at a place of a list.
+pub(crate) fn bag_of(bags: &List<List<Entry>>, i: usize) -> &[Entry]
+    requires { i < length bags.now }
+    ensures { result.now ≡ bag_at bags.now i }
+{
+    bags.as_slice()[i].as_slice()
 }
 
 /// The place of a number's entry, or the number of entries where it has none. A long bag has its entries

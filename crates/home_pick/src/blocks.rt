@@ -59,16 +59,9 @@ pub(crate) fn most_left(left: &[u32]) -> u32
 {
     let mut most: u32 = 0;
     'ports: for a in 0..left.len() {
-        most = greater(most, left[a]);
+        most = most.max(left[a]);
     }
     most
-}
-
-fn greater(a: u32, b: u32) -> u32
-    ensures least { (a ≤ result) × (b ≤ result) }
-    ensures one { (result ≡ a) ⊎ (result ≡ b) }
-{
-    if a < b { b } else { a }
 }
 
 impl Filling {

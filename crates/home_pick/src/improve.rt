@@ -10,7 +10,7 @@ ghost use Rattle.home_pick.specs.code.Uses.{AreTakes, AreUses};
 ghost use Rattle.home_pick.specs.code.Work.{away_by, AreLoads};
 ghost use Rattle.home_pick.specs.code.Working.{IsWork};
 
-use crate::bags::Entry;
+use crate::bags::{Entry, bag_of};
 use crate::links::{takes_of, uses_of};
 use crate::loads::{bound_of, loads_of, most_each};
 use crate::moves::{Work, settle_all};
@@ -61,17 +61,12 @@ pub fn better(
     let takes = takes_of(alloc, nodes)?;
     let mut work = begin(alloc, nodes, homes, &takes)?;
     let before = work.count;
-    let settled = settle_within(alloc, &mut work, nodes, machine, &takes);
-    let after = work.count;
-    let moved = work.into_homes();
-    match settled {
-        Ok(()) => Ok(Improved {
-            homes: moved,
-            before,
-            after,
-        }),
-        Err(no) => Err(no),
-    }
+    settle_within(alloc, &mut work, nodes, machine, &takes)?;
+    Ok(Improved {
+        before,
+        after: work.count,
+        homes: work.homes,
+    })
 }
 
 /// Passes until one moves nothing, where no port is filled past the bound of the homes at the start.
@@ -93,7 +88,7 @@ fn settle_within(
     settle_all(work, nodes, machine, takes, bound, most.as_slice())
 }
 
-/// The homes that are given, and what is counted of them.
+/// The homes that are given and what is counted of them, with room for what pulls nodes.
 fn begin(
     alloc: Global,
     nodes: &NodeNet,
@@ -107,58 +102,20 @@ fn begin(
     ensures homes { IfOk result (λ work. work.homes ≡ homes.now) }
 {
     let loads = loads_of(alloc, nodes, homes)?;
+    let spread = List::filled(alloc, false, nodes.items.len())?;
+    let at = List::filled(alloc, 0, homes.logic as usize)?;
     let copied = copy_of(homes)?;
-    let uses = match uses_of(alloc, nodes, homes, takes) {
-        Ok(uses) => uses,
-        Err(no) => {
-            drop(copied);
-            return Err(no);
-        }
-    };
-    let count = count_crossings(nodes, homes, &uses);
-    with_room(alloc, nodes, copied, uses, loads, count)
-}
-
-/// Homes and what is counted of them, with room for what pulls nodes.
-fn with_room(
-    alloc: Global,
-    nodes: &NodeNet,
-    homes: Homes,
-    uses: List<List<Entry>>,
-    loads: List<u32>,
-    count: u64,
-) -> Result<Work, Memory>
-    requires homes { AreHomes nodes.now homes }
-    requires uses { AreUses nodes.now homes uses }
-    requires loads { AreLoads nodes.now homes loads }
-    requires count { count ≡ crossings nodes.now homes }
-    ensures work { IfOk result (IsWork nodes.now) }
-    ensures homes { IfOk result (λ work. work.homes ≡ homes) }
-{
-    let spread = match List::filled(alloc, false, nodes.items.len()) {
-        Ok(spread) => spread,
-        Err(no) => {
-            drop(homes);
-            drop(uses);
-            return Err(no);
-        }
-    };
-    let at = match List::filled(alloc, 0, homes.logic as usize) {
-        Ok(at) => at,
-        Err(no) => {
-            drop(homes);
-            drop(uses);
-            return Err(no);
-        }
-    };
-    let touched = List::new(alloc);
+    let uses = uses_of(alloc, nodes, homes, takes)?;
     Ok(Work {
-        homes,
+        count: count_crossings(nodes, homes, &uses),
+        homes: copied,
         uses,
         loads,
         spread,
-        pulls: Pulls { at, touched },
-        count,
+        pulls: Pulls {
+            at,
+            touched: List::new(alloc),
+        },
     })
 }
 
@@ -206,7 +163,7 @@ fn readers_of(
     requires home { home ≡ home_of homes.now i }
     ensures { result ≡ readers_at nodes.now homes.now i }
 {
-    away(uses.as_slice()[i].as_slice(), home)
+    away(bag_of(uses, i), home)
 }
 
 /// How many entries of other ports than this count at all.

@@ -9,7 +9,7 @@ ghost use Rattle.home_pick.specs.code.Bags.{times, IsBag};
 ghost use Rattle.home_pick.specs.Crossings.{block_uses, feed_uses, item_uses, memory_uses, uses_by};
 ghost use Rattle.home_pick.specs.code.Uses.{bag_at, AreBags, AreTakes, AreUses, Gives, IsTaken};
 
-use crate::bags::{Entry, give};
+use crate::bags::{Entry, bag_of, give};
 use crate::uses::{empty_bags, give_all, give_bag, places_of};
 use node_defs::{Feed, Feeds, Item, NodeBlock, NodeNet};
 use plan_defs::Homes;
@@ -83,25 +83,10 @@ pub(crate) fn uses_of(
     requires takes { AreTakes nodes.now takes.now }
     ensures { IfOk result (AreUses nodes.now homes.now) }
 {
-    let mut uses = begin_uses(alloc, homes, takes)?;
-    match add_all(&mut uses, nodes, homes, takes) {
-        Ok(()) => Ok(uses),
-        Err(no) => Err(no),
-    }
-}
-
-/// A bag for each item, in which no port stands.
-fn begin_uses(
-    alloc: Global,
-    homes: &Homes,
-    takes: &List<List<Entry>>,
-) -> Result<List<List<Entry>>, Memory>
-    ensures size { IfOk result (λ bags. length bags ≡ length takes.now) }
-    ensures bags { IfOk result AreBags }
-    ensures none { IfOk result (λ bags. (i q : ℕ) → times (bag_at bags i) q ≡ 0) }
-{
     let places = places_of(alloc, takes)?;
-    empty_bags(alloc, places.as_slice(), homes.logic)
+    let mut uses = empty_bags(alloc, places.as_slice(), homes.logic)?;
+    add_all(&mut uses, nodes, homes, takes)?;
+    Ok(uses)
 }
 
 /// Adds the uses by items, memories and the host to bags in which no port stands.
@@ -141,10 +126,9 @@ fn add_items(
     ensures gives { OnOk result (Gives uses.old uses.new (λ i port.
         sum_by (λ u. where_at (home_of homes.now u) port (uses_by nodes.now u i)) (range_with_len 0 (length nodes.now.items)))) }
 {
-    let taken = takes.as_slice();
     let ports = homes.items.as_slice();
     'items: for u in 0..nodes.items.len() {
-        give_bag(uses, taken[u].as_slice(), ports[u])?;
+        give_bag(uses, bag_of(takes, u), ports[u])?;
     }
     Ok(())
 }

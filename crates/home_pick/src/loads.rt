@@ -1,6 +1,6 @@
 //! How many nodes each logic port has and may have.
 
-ghost use Rattle.std.specs.Prelude.{◌≡◌, ◌≤◌, ◌<◌, ℕ, IfOk, max, min, length};
+ghost use Rattle.std.specs.Prelude.{◌≡◌, ◌≤◌, ◌<◌, ℕ, IfOk, length};
 ghost use Rattle.limits.specs.declared.TheConstants.{MAX_LOGIC};
 ghost use Rattle.node_defs.specs.WellFormed.{IsWellFormed};
 ghost use Rattle.plan_defs.specs.Homes.{AreHomes};
@@ -45,10 +45,8 @@ pub(crate) fn bound_of(nodes: &NodeNet, homes: &Homes, loads: &[u32]) -> u32
     requires loads { AreLoads nodes.now homes.now loads.now }
     ensures { result ≡ bound_from nodes.now homes.now }
 {
-    greater(
-        most_of(nodes, homes, loads),
-        share(node_count(nodes), homes.logic),
-    )
+    let share = share(node_count(nodes), homes.logic);
+    most_of(nodes, homes, loads).max(share)
 }
 
 /// The greatest load.
@@ -56,9 +54,9 @@ fn most_of(_nodes: &NodeNet, _homes: &Homes, loads: &[u32]) -> u32
     requires loads { AreLoads _nodes.now _homes.now loads.now }
     ensures { result ≡ most_load _nodes.now _homes.now }
 {
-    let mut most = 0;
+    let mut most: u32 = 0;
     'ports: for p in 0..loads.len() {
-        most = greater(most, loads[p]);
+        most = most.max(loads[p]);
     }
     most
 }
@@ -73,12 +71,6 @@ fn share(nodes: u32, logic: u32) -> u32
     nodes / logic + nodes / (8 * logic) + 1
 }
 
-fn greater(a: u32, b: u32) -> u32
-    ensures { result ≡ max a b }
-{
-    if a < b { b } else { a }
-}
-
 /// The most nodes that each of so many logic ports may have.
 pub(crate) fn most_each(
     alloc: Global,
@@ -90,13 +82,7 @@ pub(crate) fn most_each(
 {
     let mut most = List::new(alloc);
     'ports: for port in 0..logic {
-        most.push(lesser(bound, machine.limit_at(Limited::Nodes, port)))?;
+        most.push(bound.min(machine.limit_at(Limited::Nodes, port)))?;
     }
     Ok(most)
-}
-
-fn lesser(a: u32, b: u32) -> u32
-    ensures { result ≡ min a b }
-{
-    if a < b { a } else { b }
 }

@@ -9,7 +9,7 @@ ghost use Rattle.home_pick.specs.code.Uses.{AreTakes};
 ghost use Rattle.home_pick.specs.code.Work.{AreMost};
 ghost use Rattle.home_pick.specs.code.Working.{IsLifted, IsWork};
 
-use crate::bags::Entry;
+use crate::bags::{Entry, bag_of};
 use crate::loads::node_count;
 use crate::pulls::{Pulls, strongest, weigh};
 use crate::spread::{mark_all, unmark_all};
@@ -35,27 +35,6 @@ pub(crate) struct Work {
     pub(crate) count: u64,
 }
 
-impl Work {
-    /// The homes alone.
-    pub(crate) fn into_homes(self) -> Homes
-        ensures { result ≡ self.homes }
-    {
-        let Work {
-            homes,
-            uses,
-            loads,
-            spread,
-            pulls,
-            count: _,
-        } = self;
-        drop(uses);
-        drop(loads);
-        drop(spread);
-        drop(pulls);
-        homes
-    }
-}
-
 /// Takes the uses by node v away, and weighs what pulls it.
 fn lift(work: &mut Work, nodes: &NodeNet, takes: &List<List<Entry>>, v: usize) -> Result<(), Memory>
     requires nodes { IsWellFormed nodes.now }
@@ -66,16 +45,17 @@ fn lift(work: &mut Work, nodes: &NodeNet, takes: &List<List<Entry>>, v: usize) -
     ensures homes { OnOk result (work.new.homes ≡ work.old.homes) }
 {
     let own = work.homes.items.as_slice()[v];
-    let taken = takes.as_slice()[v].as_slice();
+    let taken = bag_of(takes, v);
     take_bag(&mut work.uses, taken, own);
     unmark_all(&mut work.spread, &work.uses, taken, own);
+    let spread = work.spread.as_slice();
     weigh(
         &mut work.pulls,
         nodes,
         &work.homes,
         takes,
         &work.uses,
-        work.spread.as_slice(),
+        spread,
         v,
     )?;
     Ok(())
@@ -118,7 +98,7 @@ fn put(
     ensures homes { OnOk result (work.new.homes ≡ moved work.old.homes v port) }
 {
     let own = work.homes.items.as_slice()[v];
-    let taken = takes.as_slice()[v].as_slice();
+    let taken = bag_of(takes, v);
     give_bag(&mut work.uses, taken, port as u32)?;
     let pulled = work.pulls.at.as_slice()[own as usize];
     let pulls = work.pulls.at.as_slice()[port];

@@ -10,6 +10,7 @@ ghost use Rattle.home_pick.specs.code.Rooms.{AreFilled, AreItemPorts, AreTurned,
 ghost use Rattle.home_pick.specs.Refusals.{IsRight};
 
 use crate::blocks::{Filling, block_bits, empty, first_with_room, most_left};
+use crate::loads;
 use crate::ports::{limits_of, total};
 use crate::turns::{Turns, begin};
 use machine_text::{Limited, Machine};
@@ -119,20 +120,12 @@ fn node_limits(
     ensures refused { IfErr result (IsRight nodes.now machine.now) }
 {
     let limits = limits_of(alloc, machine, Limited::Nodes, machine.logic)?;
-    let needed = count_nodes(nodes);
+    let needed = loads::node_count(nodes);
     let limit = total(limits.as_slice());
     if limit < needed {
         return Err(HomeNo::Nodes { needed, limit });
     }
     Ok(limits)
-}
-
-/// The number of nodes, latches among them.
-fn count_nodes(nodes: &NodeNet) -> u32
-    requires { IsWellFormed nodes.now }
-    ensures { result ≡ node_count nodes.now }
-{
-    (nodes.items.len() as u32).saturating_sub(nodes.first_node)
 }
 
 /// The ports of the items, where the logic ports hold all nodes.
@@ -151,12 +144,8 @@ fn item_ports(
     ensures { IfOk result (AreItemPorts nodes.now machine.now blocks.now (length nodes.now.items)) }
 {
     let mut turns = begin(alloc, nodes, machine, limits)?;
-    let given = give_ports(&mut turns, nodes, machine, blocks);
-    let ports = turns.into_ports();
-    match given {
-        Ok(()) => Ok(ports),
-        Err(no) => Err(no),
-    }
+    give_ports(&mut turns, nodes, machine, blocks)?;
+    Ok(turns.ports)
 }
 
 /// Gives each item its port, where the logic ports hold all nodes and none has a port yet.
@@ -205,7 +194,8 @@ fn item_port(
     match item {
         Item::Input { .. } => machine.logic + machine.array,
         Item::BlockBit { block, .. } => blocks[*block as usize],
-        Item::Node { .. } => turns.turn_port(nodes, machine, i - nodes.first_node),
-        Item::Latch { .. } => turns.turn_port(nodes, machine, i - nodes.first_node),
+        Item::Node { .. } | Item::Latch { .. } => {
+            turns.turn_port(nodes, machine, i - nodes.first_node)
+        }
     }
 }

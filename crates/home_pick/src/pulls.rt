@@ -13,7 +13,7 @@ ghost use Rattle.home_pick.specs.code.Work.{hit, beside, room_in, Adds, AddsEven
 ghost use Rattle.home_pick.specs.code.Touched.{is_better, AreTouched};
 ghost use Rattle.std.specs.List.{filter, range_with_len};
 
-use crate::bags::Entry;
+use crate::bags::{Entry, bag_of};
 use node_defs::NodeNet;
 use plan_defs::Homes;
 use seen_list::{List, Memory};
@@ -131,8 +131,7 @@ fn add_entry(
 {
     let item = entry.key as usize;
     if entry.count > 0 && item != v && !spread[item] {
-        let bag = uses.as_slice()[item].as_slice();
-        add_neighbour(pulls, bag, homes.items.as_slice()[item])?;
+        add_neighbour(pulls, bag_of(uses, item), homes.items.as_slice()[item])?;
     }
     Ok(())
 }
@@ -160,8 +159,8 @@ pub(crate) fn weigh(
     ensures touched { OnOk result (AreTouched pulls.new) }
 {
     clear(pulls);
-    add_hits(pulls, uses.as_slice()[v].as_slice())?;
-    let taken = takes.as_slice()[v].as_slice();
+    add_hits(pulls, bag_of(uses, v))?;
+    let taken = bag_of(takes, v);
     'taken: for k in 0..taken.len() {
         add_entry(pulls, nodes, homes, uses, spread, v, taken[k])?;
     }

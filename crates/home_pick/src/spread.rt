@@ -5,7 +5,7 @@ ghost use Rattle.home_pick.specs.code.Bags.{counted, times, IsBag};
 ghost use Rattle.home_pick.specs.code.Spread.{AreSpread, Unmarks};
 ghost use Rattle.home_pick.specs.code.Uses.{bag_at, AreBags, AreUses};
 
-use crate::bags::{Entry, times_of};
+use crate::bags::{Entry, bag_of, times_of};
 use node_defs::NodeNet;
 use plan_defs::Homes;
 use seen_list::List;
@@ -21,9 +21,8 @@ pub(crate) fn mark_all(
     requires uses { AreUses _nodes.now homes.now uses.now }
     ensures { AreSpread _nodes.now homes.now spread.new }
 {
-    let bags = uses.as_slice();
     'items: for i in 0..spread.len() {
-        let marked = covers(bags[i].as_slice(), homes.logic);
+        let marked = covers(bag_of(uses, i), homes.logic);
         spread.set(i, marked);
     }
 }
@@ -76,7 +75,7 @@ fn unmark(spread: &mut List<bool>, uses: &List<List<Entry>>, taken: Entry, port:
 {
     let item = taken.key as usize;
     if taken.count > 0 && spread.as_slice()[item] {
-        let stays = times_of(uses.as_slice()[item].as_slice(), port) > 0;
+        let stays = times_of(bag_of(uses, item), port) > 0;
         spread.set(item, stays);
     }
 }

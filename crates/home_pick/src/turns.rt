@@ -66,13 +66,6 @@ fn first_past(left: &[u32], start: usize, skip: usize) -> usize
 }
 
 impl Turns {
-    /// The ports alone.
-    pub(crate) fn into_ports(self) -> List<u32>
-        ensures { result ≡ self.ports }
-    {
-        self.ports
-    }
-
     /// The port of the node or latch that is the next item.
     pub(crate) fn turn_port(&mut self, nodes: &NodeNet, machine: &Machine, n: u32) -> u32
         requires machine { IsValid machine.now }

@@ -6,7 +6,7 @@ ghost use Rattle.home_pick.specs.code.Bags.{counted, times, IsBag};
 ghost use Rattle.home_pick.specs.Crossings.{times_in};
 ghost use Rattle.home_pick.specs.code.Uses.{bag_at, AreBags, Gives};
 
-use crate::bags::{Entry, give, take};
+use crate::bags::{Entry, bag_of, give, take};
 use seen_list::{List, Memory};
 use std::alloc::Global;
 
@@ -22,29 +22,11 @@ pub(crate) fn empty_bags(
     ensures none { IfOk result (λ bags. (i q : ℕ) → times (bag_at bags i) q ≡ 0) }
 {
     let mut bags = List::new(alloc);
-    match add_bags(alloc, &mut bags, places, ports) {
-        Ok(()) => Ok(bags),
-        Err(no) => Err(no),
-    }
-}
-
-/// Adds such a bag for each item to a list of none.
-fn add_bags(
-    alloc: Global,
-    bags: &mut List<List<Entry>>,
-    places: &[u32],
-    ports: u32,
-) -> Result<(), Memory>
-    requires { bags.old ≡ [] }
-    ensures size { OnOk result (length bags.new ≡ length places.now) }
-    ensures bags { OnOk result (AreBags bags.new) }
-    ensures none { OnOk result ((i q : ℕ) → times (bag_at bags.new i) q ≡ 0) }
-{
     'bags: for i in 0..places.len() {
         let bag = empty_bag(alloc, if places[i] < ports { 0 } else { ports })?;
         bags.push(bag)?;
     }
-    Ok(())
+    Ok(bags)
 }
 
 /// A bag in which nothing stands, with an entry for each of so many numbers, at the number's place.
@@ -65,7 +47,7 @@ pub(crate) fn places_of(alloc: Global, takes: &List<List<Entry>>) -> Result<List
 {
     let mut places = List::filled(alloc, 0, takes.len())?;
     'items: for u in 0..takes.len() {
-        count_places(&mut places, takes.as_slice()[u].as_slice());
+        count_places(&mut places, bag_of(takes, u));
     }
     Ok(places)
 }

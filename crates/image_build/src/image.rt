@@ -93,31 +93,12 @@ fn port_images(
     ensures { IfOk result (AreFirstPorts nodes.now homes.now plan.now switch.now lists.now (length lists.now)) }
 {
     let memories = memories_of(alloc, nodes, homes)?;
-    ports_with(alloc, nodes, homes, plan, switch, &memories, lists)
-}
-
-/// A port for each list of items, with the memories that stand at it.
-fn ports_with(
-    alloc: Global,
-    nodes: &NodeNet,
-    homes: &Homes,
-    plan: &Plan,
-    switch: &Switch,
-    memories: &Memories,
-    lists: &[List<u32>],
-) -> Result<List<PortImage>, Memory>
-    requires planned { IsPlanned nodes.now homes.now plan.now }
-    requires switch { IsSwitch nodes.now homes.now plan.now.slots switch.now }
-    requires memories { AreMemories nodes.now homes.now memories.now }
-    requires claims { ArePlanClaims nodes.now homes.now plan.now.slots lists.now }
-    ensures { IfOk result (AreFirstPorts nodes.now homes.now plan.now switch.now lists.now (length lists.now)) }
-{
     let links = switch.ports.as_slice();
     let mut ports = List::new(alloc);
     'ports: for p in 0..lists.len() {
         let items = lists[p].as_slice();
         let port = port_image(
-            alloc, nodes, homes, plan, memories, p as u32, items, &links[p],
+            alloc, nodes, homes, plan, &memories, p as u32, items, &links[p],
         )?;
         ports.push(port)?;
     }
@@ -144,13 +125,8 @@ fn port_image(
 {
     let ins = links_in(alloc, links.receipts.as_slice())?;
     let outs = links_out(alloc, links.sends.as_slice())?;
-    match work_of(alloc, nodes, homes, plan, memories, port, items) {
-        Ok(work) => Ok(PortImage { work, outs, ins }),
-        Err(no) => {
-            drop(outs);
-            Err(no)
-        }
-    }
+    let work = work_of(alloc, nodes, homes, plan, memories, port, items)?;
+    Ok(PortImage { work, outs, ins })
 }
 
 /// What a port does for its items.

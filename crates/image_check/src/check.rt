@@ -71,47 +71,14 @@ fn check_laid(
     if !has_timing(&file.image, nodes, timing) {
         return Err(CheckNo::Timing);
     }
-    check_places(file, shapes, nodes, timing)
-}
-
-fn check_places(
-    file: &ImageFile,
-    shapes: &[Shape],
-    nodes: &NodeNet,
-    timing: &Timing,
-) -> Result<(), CheckNo>
-    requires claims { HasClaims file.now }
-    requires shapes { AreShapesOf file.now.image.ports shapes.now }
-    requires form { IsWellFormed file.now.image }
-    requires timing { HasTiming file.now.image nodes.now timing.now }
-    ensures { Says file.now nodes.now timing.now result }
-{
-    match first_place(file, shapes, nodes) {
-        Some(place) => {
-            Err(CheckNo::Place {
-                port: place.port,
-                slot: place.slot,
-            })
-        }
-        None => check_columns(file, shapes, nodes, timing),
+    if let Some(place) = first_place(file, shapes, nodes) {
+        return Err(CheckNo::Place {
+            port: place.port,
+            slot: place.slot,
+        });
     }
-}
-
-fn check_columns(
-    file: &ImageFile,
-    shapes: &[Shape],
-    nodes: &NodeNet,
-    timing: &Timing,
-) -> Result<(), CheckNo>
-    requires claims { HasClaims file.now }
-    requires shapes { AreShapesOf file.now.image.ports shapes.now }
-    requires form { IsWellFormed file.now.image }
-    requires timing { HasTiming file.now.image nodes.now timing.now }
-    requires places { (p slot : ℕ) → PlaceMatches file.now.image (lists_of file.now.claims) nodes.now p slot }
-    ensures { Says file.now nodes.now timing.now result }
-{
-    match first_column(file, shapes, nodes) {
-        Some(column) => Err(CheckNo::Column { column }),
-        None => Ok(()),
+    if let Some(column) = first_column(file, shapes, nodes) {
+        return Err(CheckNo::Column { column });
     }
+    Ok(())
 }

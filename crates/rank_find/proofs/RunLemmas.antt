@@ -111,6 +111,5 @@ over_order net timing walk over = record {
       absurd (omega (arith, at.1, ap length over.idle.path))
   by_mark s gate Done is = over.idle.walking.lists.finished s gate is
 
-pub over_found : (net : Netlist) (timing : Timing) (walk : Walk) → IsOver net timing walk → (order : List ℕ) → order ≡ walk.order → IsOrder net timing order × (length order ≤ length net.signals)
-over_found net timing walk over order is =
-    (rw is (over_order net timing walk over), omega (arith, ap length is, over.idle.walking.lists.count, over.idle.walking.lists.signals))
+pub over_found : (net : Netlist) (timing : Timing) (walk : Walk) → IsOver net timing walk → IsOrder net timing walk.order × (length walk.order ≤ length net.signals)
+over_found net timing walk over = (over_order net timing walk over, omega (arith, over.idle.walking.lists.count, over.idle.walking.lists.signals))

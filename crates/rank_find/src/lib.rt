@@ -50,10 +50,8 @@ pub fn rank(alloc: Global, net: &Netlist, timing: &Timing) -> Result<Ranks, Rank
     ensures looped { IfErr result (λ no. IfLoop no (IsLoop net.now timing.now)) }
     ensures not_in_unit_delay { IfErr result (λ no. IfLoop no (λ _. timing.now.mode ≢ mode.Unit)) }
 {
-    match order(alloc, net, timing) {
-        Ok(order) => ranked(alloc, net, timing, order),
-        Err(no) => Err(no),
-    }
+    let order = order(alloc, net, timing)?;
+    ranked(alloc, net, timing, order)
 }
 
 /// The order alone, of which `rank` says the rest. It is as long as the gates are many.
@@ -88,12 +86,9 @@ fn find_order(alloc: Global, net: &Netlist, timing: &Timing) -> Result<Found, Me
     ensures { IfOk result (IsFound net.now timing.now) }
 {
     let mut walk = Walk::new(alloc, net)?;
-    let found = walk.run(alloc, net, timing);
-    let order = walk.into_order();
-    match found {
-        Ok(Some(members)) => Ok(Found::Loop(members)),
-        Ok(None) => Ok(Found::Order(order)),
-        Err(no) => Err(no),
+    match walk.run(alloc, net, timing)? {
+        Some(members) => Ok(Found::Loop(members)),
+        None => Ok(Found::Order(walk.order)),
     }
 }
 

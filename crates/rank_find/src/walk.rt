@@ -31,7 +31,7 @@ pub(crate) struct Walk {
     /// Open gates, each waiting for the next.
     path: List<u32>,
     /// The gates that are done, each after those that it waits for.
-    order: List<u32>,
+    pub(crate) order: List<u32>,
 }
 
 impl Walk {
@@ -126,13 +126,6 @@ impl Walk {
                 }
             }
         }
-    }
-
-    /// The order that was found.
-    pub(crate) fn into_order(self) -> List<u32>
-        ensures { result ≡ self.order }
-    {
-        self.order
     }
 
     fn mark(&self, signal: u32) -> Mark

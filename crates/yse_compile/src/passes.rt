@@ -82,13 +82,8 @@ pub(crate) fn house(alloc: Global, machine: &Machine, nodes: NodeNet) -> Result<
     ensures same { IfOk result (λ housed. housed.nodes ≡ nodes) }
     ensures refused { IfErr result (LacksHomes nodes machine.now) }
 {
-    match homes(alloc, &nodes, machine) {
-        Ok(homes) => Ok(Housed { nodes, homes }),
-        Err(no) => {
-            drop(nodes);
-            Err(no)
-        }
-    }
+    let homes = homes(alloc, &nodes, machine)?;
+    Ok(Housed { nodes, homes })
 }
 
 /// The items at their plain homes in the slots of their plan, if it fits.
@@ -100,13 +95,8 @@ pub(crate) fn plan(alloc: Global, machine: &Machine, housed: Housed) -> Result<P
     ensures same { IfOk result (λ planned. planned.housed ≡ housed) }
     ensures refused { IfErr result (LacksPlan housed.nodes housed.homes machine.now) }
 {
-    match first_fit(alloc, &housed.nodes, &housed.homes, machine) {
-        Ok(plan) => Ok(Planned { housed, plan }),
-        Err(no) => {
-            drop(housed);
-            Err(no)
-        }
-    }
+    let plan = first_fit(alloc, &housed.nodes, &housed.homes, machine)?;
+    Ok(Planned { housed, plan })
 }
 
 /// What is planned, with the settings of its switch.
@@ -115,18 +105,9 @@ pub(crate) fn route(alloc: Global, planned: Planned) -> Result<Routed, Memory>
     ensures switch { IfOk result (λ routed. IsSwitch planned.housed.nodes planned.housed.homes planned.plan.slots routed.switch) }
     ensures same { IfOk result (λ routed. routed.planned ≡ planned) }
 {
-    match settings(
-        alloc,
-        &planned.housed.nodes,
-        &planned.housed.homes,
-        &planned.plan,
-    ) {
-        Ok(switch) => Ok(Routed { planned, switch }),
-        Err(no) => {
-            drop(planned);
-            Err(no)
-        }
-    }
+    let housed = &planned.housed;
+    let switch = settings(alloc, &housed.nodes, &housed.homes, &planned.plan)?;
+    Ok(Routed { planned, switch })
 }
 
 /// What is planned, with its switch and its image.
@@ -139,6 +120,7 @@ pub(crate) fn image_of(alloc: Global, timing: &Timing, routed: Routed) -> Result
 {
     let planned = &routed.planned;
     let housed = &planned.housed;
+    // A drop by hand saves 3 s of proof.
     match build(
         alloc,
         &housed.nodes,

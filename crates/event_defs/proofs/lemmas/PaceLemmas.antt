@@ -1,5 +1,5 @@
 -- Each event keeps the places of all ports in pace. No value and no word stands here.
-use Rattle.std.proofs.Common.{Some, ap, arith, false, get_or, get_or-set_other, get_or-set_same, if◌then◌else◌, inl, inr, length, length-set, refl, replicate, slice_get, subst, sym, true, ℕ, ◌+◌, ◌-◌, ◌<◌, ◌∙◌, ◌≡◌, ◌≢◌, ◌≤◌}
+use Rattle.std.proofs.Common.{List, Some, [], ap, arith, false, get_or, get_or-set_other, get_or-set_same, if◌then◌else◌, inl, inr, length, length-set, refl, replicate, slice_get, subst, sym, true, ℕ, ◌+◌, ◌-◌, ◌<◌, ◌∙◌, ◌≡◌, ◌≢◌, ◌≤◌}
 use Rattle.std.proofs.lemmas.Bool.{cases_eq, false≢true}
 use Rattle.std.proofs.lemmas.List.{get_or-replicate, length-replicate}
 use Rattle.std.proofs.lemmas.Option.{slice_get_within}
@@ -17,6 +17,18 @@ use Rattle.event_defs.specs.Places.{IsSend, after_ask, after_put, after_take, af
 use Rattle.event_defs.specs.Sound.{ArePaced, IsPlaceOf, KeepsPace}
 use Rattle.event_defs.specs.Steps.{updated}
 use Rattle.event_defs.specs.declared.place.Place.{Place}
+
+-- a place that has put and taken nothing in its turn
+begins : (port : PortImage) (until turn : ℕ) (known : List ℕ) → 1 ≤ turn → turn ≤ until + 1 → IsPlaceOf port until (record { turn = turn; puts = []; takes = []; known = known })
+begins port until turn known some few = record {
+  begun = some;
+  ends = few;
+  puts_sent = λ i s at. cc;
+  takes_received = λ i s at. cc;
+  puts_once = λ i j d less within. absurd (omega arith);
+  takes_once = λ i j d less within. absurd (omega arith);
+  rests = λ last. (refl, refl);
+}
 
 -- how a Put changes the latest turn of a slot
 pub latest_here : (a : Place) (slot : ℕ) → latest (after_put a slot) slot ≡ a.turn
@@ -198,15 +210,7 @@ module _ (image : Image) (fits : IsWellFormed image) where
     pub tells : EndsNext port (place p).puts (place p).takes → (place p).turn ≤ until → CanStand (after_tell (place p))
     tells next early = record {
       later = omega arith;
-      own = record {
-        begun = omega arith;
-        ends = omega arith;
-        puts_sent = λ i s at. cc;
-        takes_received = λ i s at. cc;
-        puts_once = λ i j d less within. absurd (omega arith);
-        takes_once = λ i j d less within. absurd (omega arith);
-        rests = λ last. (refl, refl);
-      };
+      own = begins port until ((place p).turn + 1) (place p).known (omega arith) (omega arith);
       wide = paced.wide p inside;
       known = λ q. paced.known p q inside;
       sends = λ i r link s reads.
@@ -226,15 +230,7 @@ module _ (image : Image) (fits : IsWellFormed image) where
 
   pub starts : (banks until : ℕ) → 1 ≤ banks → ArePaced image banks until (λ p. start (length image.ports))
   starts banks until some = record {
-    places = λ p port is. record {
-      begun = omega arith;
-      ends = omega arith;
-      puts_sent = λ i s at. cc;
-      takes_received = λ i s at. cc;
-      puts_once = λ i j d less within. absurd (omega arith);
-      takes_once = λ i j d less within. absurd (omega arith);
-      rests = λ last. (refl, refl);
-    };
+    places = λ p port is. begins port until 1 (replicate (length image.ports) 0) (omega arith) (omega arith);
     wide = λ p inside. length-replicate (length image.ports) 0;
     known = λ p q inside q_in. let e : get_or {A = ℕ} (replicate (length image.ports) 0) q 0 ≡ 0 = get_or-replicate (length image.ports) q 0 0 q_in in omega arith;
     pace = λ p i r link s reads. record { behind = omega arith; ahead = omega arith; took = λ t. absurd (false≢true t) };

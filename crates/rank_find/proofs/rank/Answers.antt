@@ -8,7 +8,7 @@ anyway (Ok x) P p = p
 anyway (Err e) P p = tt
 
 pub ranked-requires-clause-order : goal.ranked-requires-clause-order
-ranked-requires-clause-order c = c.in-Ok.ensures.order
+ranked-requires-clause-order c = c.in_ok-order.ensures.order
 
-pub returns-in-Ok-clause-acyclic : goal.returns-in-Ok-clause-acyclic
-returns-in-Ok-clause-acyclic c = anyway _ _ c.in-Ok.ensures.acyclic
+pub returns-clause-acyclic : goal.returns-clause-acyclic
+returns-clause-acyclic c = anyway _ _ c.in_ok-order.ensures.acyclic

@@ -1,5 +1,5 @@
 -- A design that fits by a choice of homes exists, with the claims of its image.
-use Rattle.std.proofs.Common.{◌≡◌, ◌∙◌, ◌⊎◌, ◌≤◌, inl, inr, true, false, length, refl, sym, ap, subst, arith}
+use Rattle.std.proofs.Common.{◌≡◌, ◌∙◌, ◌⊎◌, ◌≤◌, inl, inr, Bool, true, false, ℕ, length, refl, sym, ap, subst, arith}
 use Rattle.limits.specs.declared.TheConstants.{MAX_SLOTS}
 use Rattle.machine_text.specs.declared.machine.Machine.{Machine}
 use Rattle.machine_text.specs.Machines.{IsValid as IsValidMachine}
@@ -27,7 +27,7 @@ use Rattle.image_build.specs.Built.{IsBuilt}
 use Rattle.image_build.specs.Plans.{IsPlanned}
 use Rattle.yse_compile.specs.declared.choose.Chosen.{Chosen}
 use Rattle.yse_compile.specs.declared.compiler.Compiled.{Compiled}
-use Rattle.yse_compile.specs.Chosen.{FitsBy, FitsEither, HomesFit, IsChosen, IsDesign}
+use Rattle.yse_compile.specs.Chosen.{FitsBy, FitsEither, HomesFit, IsChosen, IsDesign, IsUsed}
 use Rattle.yse_compile.specs.Claims.{AreClaimsOf}
 use Rattle.yse_compile.specs.Designs.{IsAcyclic, DesignFits}
 use Rattle.yse_compile.proofs.lemmas.ChoiceLemmas.{better_are}
@@ -96,6 +96,16 @@ module _ (net : Netlist) (machine : Machine) (timing : Timing) (nodes : NodeNet)
         claimed = made.5;
       }
 
+  -- the design is chosen, at plain homes or others
+  chosen_as : (choice : HomeChoice) (plain : Homes) (after : ℕ) (better : Bool) (homes : Homes) → ArePicked nodes machine plain → (made : HasDesignAt homes)
+      → IsUsed choice made.compiled.nodes machine plain (record { compiled = made.compiled; before = crossings nodes plain; after = after; better = better }) → HasDesign choice net machine timing
+  chosen_as choice plain after better homes picked made used = record {
+    chosen = record { compiled = made.compiled; before = crossings nodes plain; after = after; better = better };
+    claims = made.claims;
+    is = record { plain = plain; picked = subst (λ n. ArePicked n machine plain) (sym made.nodes_are) picked; design = made.design; used = used };
+    are = made.claimed;
+  }
+
   module _ (there : (others : NodeNet) → AreItems net timing others → AreSameItems others nodes) (back : (others : NodeNet) → AreItems net timing others → AreSameItems nodes others)
       (best : (start : Homes) → (better : Homes) × IsBetter nodes machine start better)
       (one_best : (start one other : Homes) → IsBetter nodes machine start one → IsBetter nodes machine start other → one ≡ other)
@@ -111,22 +121,12 @@ module _ (net : Netlist) (machine : Machine) (timing : Timing) (nodes : NodeNet)
         let picked : ArePicked nodes machine fits.homes = picked_kept nodes fits.nodes (back fits.nodes fits.items) machine fits.homes fits.picked in
         let fit = kept fits.nodes fits.items fits.homes (record { plan = fits.plan; first_fit = fits.first_fit; fits = fits.fits }) in
         let made = design_at fits.acyclic fits.homes (plain_at fits.homes picked) fit in
-        record {
-          chosen = record { compiled = made.compiled; before = crossings nodes fits.homes; after = crossings nodes fits.homes; better = false };
-          claims = made.claims;
-          is = record {
-            plain = fits.homes;
-            picked = subst (λ n. ArePicked n machine fits.homes) (sym made.nodes_are) picked;
-            design = made.design;
-            used = record {
-              homes = made.homes_same;
-              plainly = refl;
-              before = ap (λ n. crossings n fits.homes) (sym made.nodes_are);
-              after = ap (λ n. crossings n fits.homes) (sym made.nodes_are);
-            };
-          };
-          are = made.claimed;
-        }
+        chosen_as Plain fits.homes (crossings nodes fits.homes) false fits.homes picked made (record {
+          homes = made.homes_same;
+          plainly = refl;
+          before = ap (λ n. crossings n fits.homes) (sym made.nodes_are);
+          after = ap (λ n. crossings n fits.homes) (sym made.nodes_are);
+        })
 
     better_design : FitsEither net machine timing → HasDesign Better net machine timing
     better_design fits = by (decided better.0 are) where
@@ -164,45 +164,21 @@ module _ (net : Netlist) (machine : Machine) (timing : Timing) (nodes : NodeNet)
             absurd (none (subst (HomesFit nodes machine) (one_best plain other.0 better.0 mine better.1) (kept fits.nodes fits.items other.0 other.2)))
       ]
 
+      made_at : (homes : Homes) (best : Bool) (made : HasDesignAt homes)
+          → ((best ≡ true) × (made.compiled.homes ≡ better.0)) ⊎ ((best ≡ false) × (made.compiled.homes ≡ plain) × (HomesFit made.compiled.nodes machine better.0 → ⊥)) → HasDesign Better net machine timing
+      made_at homes best made used = chosen_as Better plain (crossings nodes better.0) best homes picked made (record {
+        best = better.0;
+        is_better = subst (λ n. IsBetter n machine plain better.0) (sym made.nodes_are) better.1;
+        before = ap (λ n. crossings n plain) (sym made.nodes_are);
+        after = ap (λ n. crossings n better.0) (sym made.nodes_are);
+        used = used;
+      })
+
       by : HomesFit nodes machine better.0 ⊎ (HomesFit nodes machine better.0 → ⊥) → HasDesign Better net machine timing
-      by (inl fit) =
-          let made = design_at fits.acyclic better.0 better_at fit in
-          record {
-            chosen = record { compiled = made.compiled; before = crossings nodes plain; after = crossings nodes better.0; better = true };
-            claims = made.claims;
-            is = record {
-              plain = plain;
-              picked = subst (λ n. ArePicked n machine plain) (sym made.nodes_are) picked;
-              design = made.design;
-              used = record {
-                best = better.0;
-                is_better = subst (λ n. IsBetter n machine plain better.0) (sym made.nodes_are) better.1;
-                before = ap (λ n. crossings n plain) (sym made.nodes_are);
-                after = ap (λ n. crossings n better.0) (sym made.nodes_are);
-                used = inl (refl, made.homes_same);
-              };
-            };
-            are = made.claimed;
-          }
+      by (inl fit) = let made = design_at fits.acyclic better.0 better_at fit in made_at better.0 true made (inl (refl, made.homes_same))
       by (inr none) =
           let made = design_at fits.acyclic plain (plain_at plain picked) (plain_fit none) in
-          record {
-            chosen = record { compiled = made.compiled; before = crossings nodes plain; after = crossings nodes better.0; better = false };
-            claims = made.claims;
-            is = record {
-              plain = plain;
-              picked = subst (λ n. ArePicked n machine plain) (sym made.nodes_are) picked;
-              design = made.design;
-              used = record {
-                best = better.0;
-                is_better = subst (λ n. IsBetter n machine plain better.0) (sym made.nodes_are) better.1;
-                before = ap (λ n. crossings n plain) (sym made.nodes_are);
-                after = ap (λ n. crossings n better.0) (sym made.nodes_are);
-                used = inr (refl, made.homes_same, λ fits. none (subst (λ n. HomesFit n machine better.0) made.nodes_are fits));
-              };
-            };
-            are = made.claimed;
-          }
+          made_at plain false made (inr (refl, made.homes_same, λ fits. none (subst (λ n. HomesFit n machine better.0) made.nodes_are fits)))
 
     pub has_design : (choice : HomeChoice) → FitsBy choice net machine timing → HasDesign choice net machine timing
     has_design Plain fits = plain_design fits

@@ -5,5 +5,4 @@ pub ports-init : goal.ports-init
 ports-init c = left_none c.args.left.now
 
 pub ports-preserved : goal.ports-preserved
-ports-preserved c =
-    left_more c.args.left.now c.ports.a c.ports.most c.greater-most.result c.ports.invariant c.greater-most.ensures.least c.greater-most.ensures.one
+ports-preserved c = rw c.max-most.ensures (left_more c.args.left.now c.ports.a c.ports.most c.ports.invariant)

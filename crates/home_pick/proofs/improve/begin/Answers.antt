@@ -1,18 +1,27 @@
-use Rattle.std.proofs.Common.{◌∙◌, ap, sym, subst}
-use Rattle.plan_defs.specs.Homes.{AreHomes}
-use Rattle.home_pick.specs.Crossings.{crossings}
-use Rattle.home_pick.specs.code.Uses.{AreUses}
-use Rattle.home_pick.specs.code.Work.{AreLoads}
+use Rattle.std.proofs.Common.{◌∙◌, ap, sym, subst, length, false, replicate}
+use Rattle.std.proofs.lemmas.List.{length-replicate}
+use Rattle.plan_defs.specs.declared.plan.Homes.{Homes}
+use Rattle.home_pick.specs.code.Working.{IsWork}
+use Rattle.home_pick.proofs.SpreadLemmas.{none_spread}
+use Rattle.home_pick.proofs.TouchLemmas.{none_touched}
 use Rattle.home_pick.proofs.improve.begin.Goals as goal
 
-pub with_room-requires-clause-homes : goal.with_room-requires-clause-homes
-with_room-requires-clause-homes c = subst (AreHomes c.args.nodes.now) (sym c.in_ok-copied.ensures) c.requires.homes
-
-pub with_room-requires-clause-uses : goal.with_room-requires-clause-uses
-with_room-requires-clause-uses c = subst (λ h. AreUses c.args.nodes.now h c.in-Ok.uses) (sym c.in_ok-copied.ensures) c.in-Ok.ensures
-
-pub with_room-requires-clause-loads : goal.with_room-requires-clause-loads
-with_room-requires-clause-loads c = subst (λ h. AreLoads c.args.nodes.now h c.in_ok-loads.loads) (sym c.in_ok-copied.ensures) c.in_ok-loads.ensures
-
-pub with_room-requires-clause-count : goal.with_room-requires-clause-count
-with_room-requires-clause-count c = c.count_crossings-count.ensures ∙ ap (crossings c.args.nodes.now) (sym c.in_ok-copied.ensures)
+pub returns-clause-work : goal.returns-clause-work
+returns-clause-work c =
+    subst (λ (homes : Homes). IsWork c.args.nodes.now (record {
+      homes = homes;
+      uses = c.in_ok-uses.uses;
+      loads = c.in_ok-loads.loads;
+      spread = c.in_ok-spread.spread;
+      pulls = record { at = c.in_ok-at.at; touched = c.new.result };
+      count = c.count_crossings.result;
+    })) (sym c.in_ok-copied.ensures)
+    (record {
+      are = c.requires.homes;
+      uses = c.in_ok-uses.ensures;
+      loads = c.in_ok-loads.ensures;
+      spread = none_spread c.args.nodes.now c.args.homes.now c.in_ok-spread.spread (c.in_ok-spread.ensures ∙ ap (λ n. replicate n false) c.len.ensures);
+      size = ap length c.in_ok-at.ensures ∙ length-replicate c.args.homes.now.logic 0;
+      touched = none_touched (record { at = c.in_ok-at.at; touched = c.new.result }) c.args.homes.now.logic c.in_ok-at.ensures c.new.ensures;
+      count = c.count_crossings.ensures;
+    })

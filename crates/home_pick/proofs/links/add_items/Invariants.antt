@@ -8,7 +8,6 @@ use Rattle.home_pick.proofs.links.add_items.Given as goal
 
 abbrev pub invariant-items : goal.invariant-items
 invariant-items l = record {
-  taken : l.taken ≡ l.takes;
   ports : l.ports ≡ l.homes.items;
   bags : AreBags l.uses;
   gives : Gives l.fn.uses l.uses (λ i port. total (λ u. where_at (home_of l.homes u) port (uses_by l.nodes u i)) l.u);

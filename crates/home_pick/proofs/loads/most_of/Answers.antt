@@ -8,7 +8,7 @@ use Rattle.home_pick.proofs.loads.most_of.Goals as goal
 pub ports-preserved : goal.ports-preserved
 ports-preserved c =
     let size = c.requires.loads.size in
-    c.greater-most.ensures ∙ most_more c.args._nodes.now c.args._homes.now c.ports.most (get_or c.args.loads.now c.ports.p 0) c.ports.p c.ports.invariant (c.requires.loads.each c.ports.p (omega (arith, size)))
+    c.max-most.ensures ∙ most_more c.args._nodes.now c.args._homes.now c.ports.most (get_or c.args.loads.now c.ports.p 0) c.ports.p c.ports.invariant (c.requires.loads.each c.ports.p (omega (arith, size)))
 
 pub returns : goal.returns
 unfolding most_load

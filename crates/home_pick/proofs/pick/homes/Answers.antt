@@ -3,12 +3,9 @@ use Rattle.home_pick.specs.code.Rooms.{AreItemPorts}
 use Rattle.home_pick.proofs.HomeLemmas.{homes_are, picked_are}
 use Rattle.home_pick.proofs.pick.homes.Goals as goal
 
-pub returns-clause-picked : goal.returns-clause-picked
-returns-clause-picked c =
+pub returns : goal.returns
+returns c =
+    let picked =
     picked_are _ _ _ _ c.in_ok-blocks.ensures.housed c.in_ok-limits.ensures.few
-    (subst (λ blocks. AreItemPorts c.args.nodes.now c.args.machine.now blocks (length c.args.nodes.now.items) c.in_ok-items.items) c.as_slice-2.ensures c.in_ok-items.ensures)
-
-pub returns-clause-homes : goal.returns-clause-homes
-returns-clause-homes c =
-    homes_are _ _ _ c.requires.nodes c.requires.machine (picked_are _ _ _ _ c.in_ok-blocks.ensures.housed c.in_ok-limits.ensures.few
-    (subst (λ blocks. AreItemPorts c.args.nodes.now c.args.machine.now blocks (length c.args.nodes.now.items) c.in_ok-items.items) c.as_slice-2.ensures c.in_ok-items.ensures))
+    (subst (λ blocks. AreItemPorts c.args.nodes.now c.args.machine.now blocks (length c.args.nodes.now.items) c.in_ok-items.items) c.as_slice-2.ensures c.in_ok-items.ensures) in
+    record { picked = picked; homes = homes_are _ _ _ c.requires.nodes c.requires.machine picked; refused = tt }

@@ -1,37 +1,33 @@
-use Rattle.std.proofs.Common.{◌≡◌, ◌+◌, ◌-◌, ◌<◌, ◌≤◌, length, get_or, [], ◌∷◌, ◌++◌, sym, subst, arith}
+use Rattle.std.proofs.Common.{◌≡◌, ◌+◌, ◌-◌, ◌<◌, inl, inr, length, get_or, [], ◌∷◌, ◌++◌, sym, subst, arith}
 use Rattle.node_defs.specs.WellFormed.{NamesParts, IsComputed}
 use Rattle.home_pick.specs.code.Rooms.{AreTurned}
 use Rattle.home_pick.proofs.HomeLemmas.{computed_last, node_room_left, source_first}
 use Rattle.home_pick.proofs.TurnLemmas.{turned_before}
 use Rattle.home_pick.proofs.pick.item_port.Goals as goal
+use Rattle.home_pick.proofs.pick.item_port.Goals.{In-Node}
+
+is_computed : (c : In-Node) → IsComputed c.args.item.now
+is_computed c = elim c.in-Node.is [ inl node ↦ subst IsComputed (sym node.2) tt | inr latch ↦ subst IsComputed (sym latch.1) tt ]
+
+pub overflow_sub-i : goal.overflow_sub-i
+overflow_sub-i c = computed_last c.args.nodes.now c.args.i c.args.item.now c.requires.nodes c.requires.item (is_computed (goal.at.overflow_sub-i c).In-Node)
+
+pub turn_port-requires : goal.turn_port-requires
+turn_port-requires c =
+    let computed = is_computed (goal.at.turn_port-requires c).In-Node in
+    let from = computed_last c.args.nodes.now c.args.i c.args.item.now c.requires.nodes c.requires.item computed in
+    record {
+      machine = c.requires.machine;
+      next = omega (arith, from, c.requires.next);
+      before = c.requires.before;
+      room = node_room_left c.args.nodes.now c.args.machine.now c.args.i c.args.item.now c.requires.nodes c.requires.item computed c.requires.few;
+    }
 
 pub bounds-blocks-block : goal.bounds-blocks-block
 bounds-blocks-block c =
     let within : c.in-BlockBit.block < length c.args.nodes.now.blocks = subst (NamesParts c.args.nodes.now) c.in-BlockBit.is (c.requires.nodes.parts c.args.i c.args.item.now c.requires.item) in
     let same = c.requires.blocks in
     omega (arith, within, same)
-
-pub overflow_sub-i : goal.overflow_sub-i
-overflow_sub-i c = computed_last c.args.nodes.now c.args.i c.args.item.now c.requires.nodes c.requires.item (subst IsComputed (sym c.in-Node.is) tt)
-
-pub overflow_sub-i-in-Latch : goal.overflow_sub-i-in-Latch
-overflow_sub-i-in-Latch c = computed_last c.args.nodes.now c.args.i c.args.item.now c.requires.nodes c.requires.item (subst IsComputed (sym c.in-Latch.is) tt)
-
-pub turn_port-requires-clause-next : goal.turn_port-requires-clause-next
-turn_port-requires-clause-next c =
-    let from : c.args.nodes.now.first_node ≤ c.args.i = computed_last c.args.nodes.now c.args.i c.args.item.now c.requires.nodes c.requires.item (subst IsComputed (sym c.in-Node.is) tt) in
-    omega (arith, from, c.requires.next)
-
-pub turn_port-requires-in-Latch-clause-next : goal.turn_port-requires-in-Latch-clause-next
-turn_port-requires-in-Latch-clause-next c =
-    let from : c.args.nodes.now.first_node ≤ c.args.i = computed_last c.args.nodes.now c.args.i c.args.item.now c.requires.nodes c.requires.item (subst IsComputed (sym c.in-Latch.is) tt) in
-    omega (arith, from, c.requires.next)
-
-pub turn_port-requires-clause-room : goal.turn_port-requires-clause-room
-turn_port-requires-clause-room c = node_room_left c.args.nodes.now c.args.machine.now c.args.i c.args.item.now c.requires.nodes c.requires.item (subst IsComputed (sym c.in-Node.is) tt) c.requires.few
-
-pub turn_port-requires-in-Latch-clause-room : goal.turn_port-requires-in-Latch-clause-room
-turn_port-requires-in-Latch-clause-room c = node_room_left c.args.nodes.now c.args.machine.now c.args.i c.args.item.now c.requires.nodes c.requires.item (subst IsComputed (sym c.in-Latch.is) tt) c.requires.few
 
 pub returns-in-Input-clause-turned : goal.returns-in-Input-clause-turned
 returns-in-Input-clause-turned c =
@@ -45,12 +41,6 @@ returns-in-BlockBit-clause-turned c =
 
 pub returns-in-Node-clause-turned : goal.returns-in-Node-clause-turned
 returns-in-Node-clause-turned c =
-    let from : c.args.nodes.now.first_node ≤ c.args.i = computed_last c.args.nodes.now c.args.i c.args.item.now c.requires.nodes c.requires.item (subst IsComputed (sym c.in-Node.is) tt) in
+    let from = computed_last c.args.nodes.now c.args.i c.args.item.now c.requires.nodes c.requires.item (is_computed (goal.at.returns-in-Node-clause-turned c).In-Node) in
     let more : c.args.i - c.args.nodes.now.first_node + 1 ≡ c.args.i + 1 - c.args.nodes.now.first_node = omega (arith, from) in
     subst (λ n. AreTurned c.args.nodes.now c.args.machine.now (c.args.turns.now.ports ++ c.turn_port.result ∷ []) n c.turn_port.new.self.left c.turn_port.new.self.skips) more c.turn_port.ensures.turned
-
-pub returns-in-Latch-clause-turned : goal.returns-in-Latch-clause-turned
-returns-in-Latch-clause-turned c =
-    let from : c.args.nodes.now.first_node ≤ c.args.i = computed_last c.args.nodes.now c.args.i c.args.item.now c.requires.nodes c.requires.item (subst IsComputed (sym c.in-Latch.is) tt) in
-    let more : c.args.i - c.args.nodes.now.first_node + 1 ≡ c.args.i + 1 - c.args.nodes.now.first_node = omega (arith, from) in
-    subst (λ n. AreTurned c.args.nodes.now c.args.machine.now (c.args.turns.now.ports ++ c.turn_port-in-Latch.result ∷ []) n c.turn_port-in-Latch.new.self.left c.turn_port-in-Latch.new.self.skips) more c.turn_port-in-Latch.ensures.turned

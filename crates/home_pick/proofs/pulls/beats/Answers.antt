@@ -1,4 +1,4 @@
-use Rattle.std.proofs.Common.{◌∙◌, inl, inr, get_or, refl, sym, eq-eqb}
+use Rattle.std.proofs.Common.{inl, inr, get_or, refl, eq-eqb}
 use Rattle.std.proofs.lemmas.Bool.{cases_Bool, eqb-true}
 use Rattle.std.specs.Prelude.{◌==◌}
 use Rattle.home_pick.proofs.pulls.beats.Goals as goal

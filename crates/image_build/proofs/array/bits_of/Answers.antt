@@ -9,18 +9,17 @@ use Rattle.image_build.proofs.GrowLemmas.{made_all, made_next}
 use Rattle.image_build.proofs.PlannedLemmas.{at_place, item_at, bit_at_array, bit_right}
 use Rattle.image_build.proofs.array.bits_of.Goals as goal
 
-pub bit_of-requires-clause-bit : goal.bit_of-requires-clause-bit
-bit_of-requires-clause-bit c =
-    bit_at_array c.args.nodes.now c.args.homes.now c.args.plan.now c.requires.planned c.args.port (get_or c.args.items.now c.items.k 0) (get_or c.as_slice-list.result.now (get_or c.args.items.now c.items.k 0) (Input 0))
-    (at_place c.args.nodes.now c.args.homes.now c.args.plan.now.slots c.args.port c.args.items.now c.items.k 0 c.requires.items c.items-test.true)
-    (item_at c.args.nodes.now c.args.homes.now c.args.plan.now c.requires.planned c.args.port c.args.items.now c.items.k 0 c.as_slice-list.result.now (Input 0) c.requires.items c.items-test.true c.as_slice-list.ensures)
-    c.requires.array.0 c.requires.array.1
-
-pub bit_of-requires-clause-memory : goal.bit_of-requires-clause-memory
-bit_of-requires-clause-memory c = λ m bit is.
+pub bit_of-requires : goal.bit_of-requires
+bit_of-requires c =
+    let at = at_place c.args.nodes.now c.args.homes.now c.args.plan.now.slots c.args.port c.args.items.now c.items.k 0 c.requires.items c.items-test.true in
     let there = item_at c.args.nodes.now c.args.homes.now c.args.plan.now c.requires.planned c.args.port c.args.items.now c.items.k 0 c.as_slice-list.result.now (Input 0) c.requires.items c.items-test.true c.as_slice-list.ensures in
-    let low : m < length c.args.nodes.now.blocks = subst (NamesParts c.args.nodes.now) is (c.requires.planned.formed.parts _ _ there) in
-    subst (λ places. m < length places) (sym c.as_slice-places.ensures) (omega (arith, low, c.requires.memories.places_are))
+    record {
+      within = omega (arith, at.0, c.requires.planned.first_fit.slots.items);
+      bit = bit_at_array c.args.nodes.now c.args.homes.now c.args.plan.now c.requires.planned c.args.port (get_or c.args.items.now c.items.k 0) (get_or c.as_slice-list.result.now (get_or c.args.items.now c.items.k 0) (Input 0)) at there c.requires.array.0 c.requires.array.1;
+      memory = λ m bit is.
+          let low : m < length c.args.nodes.now.blocks = subst (NamesParts c.args.nodes.now) is (c.requires.planned.formed.parts _ _ there) in
+          subst (λ places. m < length places) (sym c.as_slice-places.ensures) (omega (arith, low, c.requires.memories.places_are));
+    }
 
 pub items-preserved : goal.items-preserved
 items-preserved c =
@@ -37,11 +36,6 @@ pub bounds-list-x : goal.bounds-list-x
 bounds-list-x c =
     subst (λ list. get_or c.args.items.now c.items.k 0 < length list) (sym c.as_slice-list.ensures)
     (at_place c.args.nodes.now c.args.homes.now c.args.plan.now.slots c.args.port c.args.items.now c.items.k 0 c.requires.items c.items-test.true).0
-
-pub bit_of-requires-clause-within : goal.bit_of-requires-clause-within
-bit_of-requires-clause-within c =
-    let at = (at_place c.args.nodes.now c.args.homes.now c.args.plan.now.slots c.args.port c.args.items.now c.items.k 0 c.requires.items c.items-test.true) in
-    omega (arith, at.0, c.requires.planned.first_fit.slots.items)
 
 pub returns : goal.returns
 returns c =

@@ -6,12 +6,14 @@ use Rattle.image_build.proofs.GrowLemmas.{made_all, made_next}
 use Rattle.image_build.proofs.PlannedLemmas.{at_place, item_at, input_at_host}
 use Rattle.image_build.proofs.host.inputs_of.Goals as goal
 
-pub input_of-requires-clause-input : goal.input_of-requires-clause-input
-input_of-requires-clause-input c =
-    input_at_host c.args.nodes.now c.args.homes.now c.args.plan.now c.requires.planned c.args.port (get_or c.args.items.now c.items.k 0) (get_or c.as_slice-list.result.now (get_or c.args.items.now c.items.k 0) (Input 0))
-    (at_place c.args.nodes.now c.args.homes.now c.args.plan.now.slots c.args.port c.args.items.now c.items.k 0 c.requires.items c.items-test.true)
-    (item_at c.args.nodes.now c.args.homes.now c.args.plan.now c.requires.planned c.args.port c.args.items.now c.items.k 0 c.as_slice-list.result.now (Input 0) c.requires.items c.items-test.true c.as_slice-list.ensures)
-    c.requires.host
+pub input_of-requires : goal.input_of-requires
+input_of-requires c =
+    let at = at_place c.args.nodes.now c.args.homes.now c.args.plan.now.slots c.args.port c.args.items.now c.items.k 0 c.requires.items c.items-test.true in
+    let there = item_at c.args.nodes.now c.args.homes.now c.args.plan.now c.requires.planned c.args.port c.args.items.now c.items.k 0 c.as_slice-list.result.now (Input 0) c.requires.items c.items-test.true c.as_slice-list.ensures in
+    record {
+      within = omega (arith, at.0, c.requires.planned.first_fit.slots.items);
+      input = input_at_host c.args.nodes.now c.args.homes.now c.args.plan.now c.requires.planned c.args.port (get_or c.args.items.now c.items.k 0) (get_or c.as_slice-list.result.now (get_or c.args.items.now c.items.k 0) (Input 0)) at there c.requires.host;
+    }
 
 pub items-preserved : goal.items-preserved
 items-preserved c =
@@ -26,11 +28,6 @@ pub bounds-list-x : goal.bounds-list-x
 bounds-list-x c =
     subst (λ list. get_or c.args.items.now c.items.k 0 < length list) (sym c.as_slice-list.ensures)
     (at_place c.args.nodes.now c.args.homes.now c.args.plan.now.slots c.args.port c.args.items.now c.items.k 0 c.requires.items c.items-test.true).0
-
-pub input_of-requires-clause-within : goal.input_of-requires-clause-within
-input_of-requires-clause-within c =
-    let at = (at_place c.args.nodes.now c.args.homes.now c.args.plan.now.slots c.args.port c.args.items.now c.items.k 0 c.requires.items c.items-test.true) in
-    omega (arith, at.0, c.requires.planned.first_fit.slots.items)
 
 pub returns : goal.returns
 returns c = made_all c.args.nodes.now (IsInputFor c.args.plan.now.slots) c.args.items.now c.items.k c.items.inputs (omega arith) c.items.invariant

@@ -5,34 +5,22 @@ use Rattle.image_build.proofs.PlannedLemmas.{at_place, item_at, computed_at, pla
 use Rattle.image_build.proofs.TaskLemmas.{tasks_more}
 use Rattle.image_build.proofs.logic.logic_work.Goals as goal
 
-pub task_of-requires-clause-room : goal.task_of-requires-clause-room
-task_of-requires-clause-room c =
-    let few = c.items.invariant.few in
-    let low = place_few c.args.nodes.now c.args.homes.now c.args.plan.now c.requires.planned c.args.port c.args.items.now c.items.k c.requires.items c.items-test.true in
-    omega (arith, few, low)
-
-pub task_of-requires-clause-within : goal.task_of-requires-clause-within
-task_of-requires-clause-within c =
+pub task_of-requires : goal.task_of-requires
+task_of-requires c =
+    let planned = c.requires.planned in
     let at = at_place c.args.nodes.now c.args.homes.now c.args.plan.now.slots c.args.port c.args.items.now c.items.k 0 c.requires.items c.items-test.true in
-    omega (arith, at.0, c.requires.planned.first_fit.slots.items)
-
-pub task_of-requires-clause-computed : goal.task_of-requires-clause-computed
-task_of-requires-clause-computed c =
-    computed_at c.args.nodes.now c.args.homes.now c.args.plan.now c.requires.planned c.args.port (get_or c.args.items.now c.items.k 0) (get_or c.as_slice-list.result.now (get_or c.args.items.now c.items.k 0) (Input 0))
-    (at_place c.args.nodes.now c.args.homes.now c.args.plan.now.slots c.args.port c.args.items.now c.items.k 0 c.requires.items c.items-test.true)
-    (item_at c.args.nodes.now c.args.homes.now c.args.plan.now c.requires.planned c.args.port c.args.items.now c.items.k 0 c.as_slice-list.result.now (Input 0) c.requires.items c.items-test.true c.as_slice-list.ensures)
-    c.requires.logic
-
-pub task_of-requires-clause-table : goal.task_of-requires-clause-table
-task_of-requires-clause-table c =
-    c.requires.planned.formed.parts (get_or c.args.items.now c.items.k 0) (get_or c.as_slice-list.result.now (get_or c.args.items.now c.items.k 0) (Input 0))
-    (item_at c.args.nodes.now c.args.homes.now c.args.plan.now c.requires.planned c.args.port c.args.items.now c.items.k 0 c.as_slice-list.result.now (Input 0) c.requires.items c.items-test.true c.as_slice-list.ensures)
-
-pub task_of-requires-clause-taken : goal.task_of-requires-clause-taken
-task_of-requires-clause-taken c = λ o takes.
-    let low = c.requires.planned.formed.taken (get_or c.args.items.now c.items.k 0) o (get_or c.as_slice-list.result.now (get_or c.args.items.now c.items.k 0) (Input 0))
-    (item_at c.args.nodes.now c.args.homes.now c.args.plan.now c.requires.planned c.args.port c.args.items.now c.items.k 0 c.as_slice-list.result.now (Input 0) c.requires.items c.items-test.true c.as_slice-list.ensures) takes in
-    omega (arith, low, c.requires.planned.first_fit.slots.items)
+    let there = item_at c.args.nodes.now c.args.homes.now c.args.plan.now planned c.args.port c.args.items.now c.items.k 0 c.as_slice-list.result.now (Input 0) c.requires.items c.items-test.true c.as_slice-list.ensures in
+    record {
+      room =
+          let low = place_few c.args.nodes.now c.args.homes.now c.args.plan.now planned c.args.port c.args.items.now c.items.k c.requires.items c.items-test.true in
+          let few = c.items.invariant.few in
+          omega (arith, few, low);
+      within = omega (arith, at.0, planned.first_fit.slots.items);
+      computed = computed_at c.args.nodes.now c.args.homes.now c.args.plan.now planned c.args.port (get_or c.args.items.now c.items.k 0) (get_or c.as_slice-list.result.now (get_or c.args.items.now c.items.k 0) (Input 0)) at there c.requires.logic;
+      table = planned.formed.parts _ _ there;
+      as_long = omega (arith, planned.housed.items, planned.first_fit.slots.items);
+      taken = λ o takes. let low = planned.formed.taken _ o _ there takes in omega (arith, low, planned.first_fit.slots.items);
+    }
 
 pub items-preserved : goal.items-preserved
 items-preserved c =
@@ -48,6 +36,3 @@ pub bounds-list-x : goal.bounds-list-x
 bounds-list-x c =
     subst (λ list. get_or c.args.items.now c.items.k 0 < length list) (sym c.as_slice-list.ensures)
     (at_place c.args.nodes.now c.args.homes.now c.args.plan.now.slots c.args.port c.args.items.now c.items.k 0 c.requires.items c.items-test.true).0
-
-pub task_of-requires-clause-as_long : goal.task_of-requires-clause-as_long
-task_of-requires-clause-as_long c = omega (arith, c.requires.planned.housed.items, c.requires.planned.first_fit.slots.items)

@@ -12,11 +12,6 @@ use Rattle.image_check.specs.declared.claims.OnePort.{OnePort}
 use Rattle.image_check.proofs.FirstLemmas.{host_there}
 use Rattle.image_check.proofs.places.first_column.Goals as goal
 
-pub first_unprinted-requires-clause-as_many : goal.first_unprinted-requires-clause-as_many
-first_unprinted-requires-clause-as_many c =
-    let there = host_there c.args.file.now.image c.as_slice-ports.result.now c.index-ports-ports.result c.as_slice-ports.ensures c.requires.some c.index-ports-ports.is in
-    ap length c.printed_sources-printed.ensures ∙ (c.requires.printed c.index-ports-ports.result there ∙ sym (ap length c.as_slice.ensures))
-
 pub overflow_sub-port : goal.overflow_sub-port
 overflow_sub-port c = omega (arith, c.requires.some, ap length c.as_slice-ports.ensures)
 
@@ -29,12 +24,12 @@ overflow_sub-one c = omega (arith, c.requires.some, ap length c.as_slice-ports.e
 pub overflow_cast-one : goal.overflow_cast-one
 overflow_cast-one c = omega (arith, c.requires.some, c.requires.few, ap length c.as_slice-ports.ensures)
 
-pub first_unprinted-requires-clause-one : goal.first_unprinted-requires-clause-one
-first_unprinted-requires-clause-one c =
+pub first_unprinted-requires : goal.first_unprinted-requires
+first_unprinted-requires c =
     let there = host_there c.args.file.now.image c.as_slice-ports.result.now c.index-ports-ports.result c.as_slice-ports.ensures c.requires.some c.index-ports-ports.is in
     record {
-      laid = c.requires.laid;
-      is = subst (λ n. IsPort c.args.file.now.image n c.index-ports-ports.result) (ap (λ (ports : List PortImage). length ports - 1) (sym c.as_slice-ports.ensures)) there;
+      one = record { laid = c.requires.laid; is = subst (λ n. IsPort c.args.file.now.image n c.index-ports-ports.result) (ap (λ (ports : List PortImage). length ports - 1) (sym c.as_slice-ports.ensures)) there };
+      as_many = ap length c.printed_sources-printed.ensures ∙ (c.requires.printed c.index-ports-ports.result there ∙ sym (ap length c.as_slice.ensures));
     }
 
 -- the printed sources of the host are the columns

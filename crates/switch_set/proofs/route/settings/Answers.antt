@@ -10,17 +10,15 @@ use Rattle.switch_set.specs.code.Links.{AreLinked, AreUnlinked}
 use Rattle.switch_set.proofs.SwitchLemmas.{item_low, linked_more, home_low, readers_low, switch_is}
 use Rattle.switch_set.proofs.route.settings.Goals as goal
 
-pub link-requires-clause-home : goal.link-requires-clause-home
-link-requires-clause-home c =
-    rw c.as_slice-home_ports.ensures
-    (home_low c.args.nodes.now c.args.homes.now c.args.plan.now c.requires.nodes c.requires.homes c.requires.plan c.deref-placed-items.result.now c.items.invariant.order
-    c.items.placed-index _ (slice_get-get_or c.deref-placed-items.result.now c.items.placed-index (record { slot = 0; item = 0 }) (omega arith)) c.items.ports c.items.invariant.linked.ports_are)
-
-pub link-requires-clause-readers : goal.link-requires-clause-readers
-link-requires-clause-readers c =
-    readers_low c.args.nodes.now c.args.homes.now c.args.plan.now c.requires.nodes c.requires.homes c.requires.plan c.deref-placed-items.result.now c.items.invariant.order
-    c.items.placed-index _ (slice_get-get_or c.deref-placed-items.result.now c.items.placed-index (record { slot = 0; item = 0 }) (omega arith)) c.items.ports c.of-heard.result.now c.items.invariant.linked.ports_are
-    (c.items.invariant.readers.each _ c.of-heard.result.now c.of-heard.ensures)
+pub link-requires : goal.link-requires
+link-requires c =
+    let at = slice_get-get_or c.deref-placed-items.result.now c.items.placed-index (record { slot = 0; item = 0 }) (omega arith) in
+    let heard = c.items.invariant.readers.each _ c.of-heard.result.now c.of-heard.ensures in
+    record {
+      home = rw c.as_slice-home_ports.ensures (home_low c.args.nodes.now c.args.homes.now c.args.plan.now c.requires.nodes c.requires.homes c.requires.plan c.deref-placed-items.result.now c.items.invariant.order c.items.placed-index _ at c.items.ports c.items.invariant.linked.ports_are);
+      readers = readers_low c.args.nodes.now c.args.homes.now c.args.plan.now c.requires.nodes c.requires.homes c.requires.plan c.deref-placed-items.result.now c.items.invariant.order c.items.placed-index _ at c.items.ports c.of-heard.result.now c.items.invariant.linked.ports_are heard;
+      once = heard.rising;
+    }
 
 pub items-preserved : goal.items-preserved
 items-preserved c = record {
@@ -51,11 +49,8 @@ returns-in_err-ports c = let p = err_from_is_err_and c.from_residual-in_err-port
 pub returns-in_err-link : goal.returns-in_err-link
 returns-in_err-link c = let p = err_from_is_err_and c.from_residual-in_err-link.result c.from_residual-in_err-link.ensures.1 in rw p.1 tt
 
-pub new-requires-clause-nodes : goal.new-requires-clause-nodes
-new-requires-clause-nodes c = c.requires.nodes
-
-pub new-requires-clause-homes : goal.new-requires-clause-homes
-new-requires-clause-homes c = c.requires.homes
+pub new-requires : goal.new-requires
+new-requires c = record { nodes = c.requires.nodes; homes = c.requires.homes }
 
 -- before the first item nothing is linked
 none_linked : (nodes : NodeNet) (homes : Homes) (slots : List ℕ) (ports : List PortLinks) → AreUnlinked (ports_of homes) ports → AreLinked nodes homes slots [] ports
@@ -93,9 +88,6 @@ bounds-home_ports-item c =
     let low = item_low c.args.nodes.now c.args.homes.now c.args.plan.now c.requires.nodes c.requires.homes c.requires.plan c.deref-placed-items.result.now c.items.invariant.order
     c.items.placed-index _ (slice_get-get_or c.deref-placed-items.result.now c.items.placed-index (record { slot = 0; item = 0 }) (omega arith)) in
     omega (arith, low, ap length c.as_slice-home_ports.ensures, c.requires.homes.items)
-
-pub link-requires-clause-once : goal.link-requires-clause-once
-link-requires-clause-once c = (c.items.invariant.readers.each _ c.of-heard.result.now c.of-heard.ensures).rising
 
 pub slot_order-requires : goal.slot_order-requires
 slot_order-requires c = omega (arith, ap length c.as_slice.ensures, c.requires.plan.slots.items, c.requires.nodes.few)

@@ -3,10 +3,44 @@ use Rattle.std.proofs.lemmas.Result.{err_from_is_err_and}
 use Rattle.yse_compile.proofs.lemmas.ChoiceLemmas.{used_fits}
 use Rattle.yse_compile.proofs.compiler.compile_with.Goals as goal
 
-pub returns-in_err-nodes-clause-refused : goal.returns-in_err-nodes-clause-refused
-returns-in_err-nodes-clause-refused c =
+pub returns-in_err-nodes : goal.returns-in_err-nodes
+returns-in_err-nodes c =
     let p = err_from_is_err_and c.from_residual.result c.from_residual.ensures.1 in
-    rw (p.1, p.2) (c.in_err-nodes.ensures.refused c.args.machine.now)
+    rw (p.1, p.2) (record {
+      shown = tt;
+      chosen = tt;
+      refused = c.in_err-nodes.ensures.refused c.args.machine.now;
+      fits = λ fits. c.in_err-nodes.ensures.either c.args.machine.now (c.refusals_are_right.ensures.either c.args.choice c.args.net.now c.args.machine.now c.args.timing.now fits);
+      fitted = tt;
+    })
+
+pub returns-in_err-housed : goal.returns-in_err-housed
+returns-in_err-housed c =
+    let p = err_from_is_err_and c.from_residual-in_err-housed.result c.from_residual-in_err-housed.ensures.1 in
+    let right = c.refusals_are_right.ensures.homes c.args.net.now c.args.machine.now c.args.timing.now c.in_ok-nodes.nodes c.in_ok-nodes.ensures.acyclic c.in_ok-nodes.ensures.items _ c.in_err-housed.ensures.refused in
+    rw (p.1, p.2) (record {
+      shown = tt;
+      chosen = tt;
+      refused = right.0;
+      fits = λ fits. right.1 (c.refusals_are_right.ensures.either c.args.choice c.args.net.now c.args.machine.now c.args.timing.now fits);
+      fitted = tt;
+    })
+
+pub returns-in_err-fitted : goal.returns-in_err-fitted
+returns-in_err-fitted c =
+    let p = err_from_is_err_and c.from_residual-in_err-fitted.result c.from_residual-in_err-fitted.ensures.1 in
+    let right = c.refusals_are_right.ensures.plan c.args.choice c.args.net.now c.args.machine.now c.args.timing.now c.in_ok-housed.housed.nodes c.in_ok-housed.housed.homes c.requires.net
+    c.in_ok-nodes.ensures.acyclic (rw c.in_ok-housed.ensures.same c.in_ok-nodes.ensures.items) c.in_ok-housed.ensures.housed.picked _ c.in_err-fitted.ensures.refused c.in_err-fitted.ensures.unfit in
+    rw (p.1, p.2) (record { shown = tt; chosen = tt; refused = right.0; fits = right.1; fitted = tt })
+
+pub fit-requires-clause-housed : goal.fit-requires-clause-housed
+fit-requires-clause-housed c = c.in_ok-housed.ensures.housed
+
+pub route-requires : goal.route-requires
+route-requires c = c.in_ok-fitted.ensures.fitted.planned
+
+pub image_of-requires : goal.image_of-requires
+image_of-requires c = rw c.in_ok-routed.ensures.same (record { timing = c.requires.timing; planned = c.in_ok-fitted.ensures.fitted.planned; switch = c.in_ok-routed.ensures.switch })
 
 pub returns-clause-chosen : goal.returns-clause-chosen
 returns-clause-chosen c =
@@ -39,47 +73,6 @@ returns-clause-fitted c =
     (rw c.in_ok-housed.ensures.same c.in_ok-nodes.ensures.items) c.in_ok-housed.ensures.housed.picked
     (rw (ap (λ made. made.homes) same) (record { plan = c.in_ok-fitted.fitted.planned.plan; first_fit = rw fitted.same at fitted.planned.first_fit; fits = fitted.fits }))
     (fitted.used compiled (ap (λ made. made.homes) same))
-
-pub fit-requires-clause-housed : goal.fit-requires-clause-housed
-fit-requires-clause-housed c = c.in_ok-housed.ensures.housed
-
-pub route-requires : goal.route-requires
-route-requires c = c.in_ok-fitted.ensures.fitted.planned
-
-pub image_of-requires-clause-planned : goal.image_of-requires-clause-planned
-image_of-requires-clause-planned c = rw c.in_ok-routed.ensures.same c.in_ok-fitted.ensures.fitted.planned
-
-pub image_of-requires-clause-switch : goal.image_of-requires-clause-switch
-image_of-requires-clause-switch c = rw c.in_ok-routed.ensures.same c.in_ok-routed.ensures.switch
-
-pub returns-in_err-nodes-clause-fits : goal.returns-in_err-nodes-clause-fits
-returns-in_err-nodes-clause-fits c fits =
-    let p = err_from_is_err_and c.from_residual.result c.from_residual.ensures.1 in
-    rw (p.1, p.2) (c.in_err-nodes.ensures.either c.args.machine.now (c.refusals_are_right.ensures.either c.args.choice c.args.net.now c.args.machine.now c.args.timing.now fits))
-
-pub returns-in_err-housed-clause-refused : goal.returns-in_err-housed-clause-refused
-returns-in_err-housed-clause-refused c =
-    let p = err_from_is_err_and c.from_residual-in_err-housed.result c.from_residual-in_err-housed.ensures.1 in
-    rw (p.1, p.2)
-    (c.refusals_are_right.ensures.homes c.args.net.now c.args.machine.now c.args.timing.now c.in_ok-nodes.nodes c.in_ok-nodes.ensures.acyclic c.in_ok-nodes.ensures.items _ c.in_err-housed.ensures.refused).0
-
-pub returns-in_err-housed-clause-fits : goal.returns-in_err-housed-clause-fits
-returns-in_err-housed-clause-fits c fits =
-    let p = err_from_is_err_and c.from_residual-in_err-housed.result c.from_residual-in_err-housed.ensures.1 in
-    rw (p.1, p.2) ((c.refusals_are_right.ensures.homes c.args.net.now c.args.machine.now c.args.timing.now c.in_ok-nodes.nodes c.in_ok-nodes.ensures.acyclic c.in_ok-nodes.ensures.items _ c.in_err-housed.ensures.refused).1
-    (c.refusals_are_right.ensures.either c.args.choice c.args.net.now c.args.machine.now c.args.timing.now fits))
-
-pub returns-in_err-fitted-clause-refused : goal.returns-in_err-fitted-clause-refused
-returns-in_err-fitted-clause-refused c =
-    let p = err_from_is_err_and c.from_residual-in_err-fitted.result c.from_residual-in_err-fitted.ensures.1 in
-    rw (p.1, p.2) (c.refusals_are_right.ensures.plan c.args.choice c.args.net.now c.args.machine.now c.args.timing.now c.in_ok-housed.housed.nodes c.in_ok-housed.housed.homes c.requires.net
-    c.in_ok-nodes.ensures.acyclic (rw c.in_ok-housed.ensures.same c.in_ok-nodes.ensures.items) c.in_ok-housed.ensures.housed.picked _ c.in_err-fitted.ensures.refused c.in_err-fitted.ensures.unfit).0
-
-pub returns-in_err-fitted-clause-fits : goal.returns-in_err-fitted-clause-fits
-returns-in_err-fitted-clause-fits c fits =
-    let p = err_from_is_err_and c.from_residual-in_err-fitted.result c.from_residual-in_err-fitted.ensures.1 in
-    rw (p.1, p.2) ((c.refusals_are_right.ensures.plan c.args.choice c.args.net.now c.args.machine.now c.args.timing.now c.in_ok-housed.housed.nodes c.in_ok-housed.housed.homes c.requires.net
-    c.in_ok-nodes.ensures.acyclic (rw c.in_ok-housed.ensures.same c.in_ok-nodes.ensures.items) c.in_ok-housed.ensures.housed.picked _ c.in_err-fitted.ensures.refused c.in_err-fitted.ensures.unfit).1 fits)
 
 pub returns-clause-shown : goal.returns-clause-shown
 returns-clause-shown c =

@@ -3,7 +3,7 @@ use Rattle.std.proofs.lemmas.List.{length_push}
 use Rattle.home_pick.specs.declared.bags.Entry.{Entry}
 use Rattle.home_pick.specs.code.Bags.{IsBag, times}
 use Rattle.home_pick.proofs.LinkLemmas.{all_push}
-use Rattle.home_pick.proofs.uses.add_bags.Goals as goal
+use Rattle.home_pick.proofs.uses.empty_bags.Goals as goal
 
 pub bags-preserved : goal.bags-preserved
 bags-preserved c =

@@ -5,7 +5,7 @@ use Rattle.image_defs.specs.Matches.{claims_of}
 use Rattle.image_build.specs.PortItems.{ArePortItems}
 use Rattle.image_build.specs.code.Layouts.{IsWorkFor}
 use Rattle.image_build.proofs.PortLemmas.{ports_more}
-use Rattle.image_build.proofs.image.ports_with.Goals as goal
+use Rattle.image_build.proofs.image.port_images.Goals as goal
 
 pub port_image-requires-clause-items : goal.port_image-requires-clause-items
 port_image-requires-clause-items c =

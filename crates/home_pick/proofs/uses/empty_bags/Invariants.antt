@@ -1,7 +1,7 @@
 use Rattle.std.proofs.Common.{◌≡◌, ℕ, length}
 use Rattle.home_pick.specs.code.Bags.{times}
 use Rattle.home_pick.specs.code.Uses.{bag_at, AreBags}
-use Rattle.home_pick.proofs.uses.add_bags.Given as goal
+use Rattle.home_pick.proofs.uses.empty_bags.Given as goal
 
 abbrev pub invariant-bags : goal.invariant-bags
 invariant-bags l = record {
