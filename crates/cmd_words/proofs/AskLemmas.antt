@@ -1,6 +1,7 @@
 -- What arguments and values say, said of a parse.
 use Rattle.std.proofs.Common.{◌≡◌, inl, inr, ℕ, List, [], ◌∷◌, Option, Some, None, option_map, refl, sym, ap, ap₂, ◌∙◌}
-use Rattle.std.specs.Prelude.{option_and_then, codes}
+use Rattle.std.specs.Prelude.{option_and_then, codes, Result, Ok, Err}
+use Rattle.std.specs.Result.{IsErrAnd}
 use Rattle.list_laws.proofs.Options.{one_some}
 use Rattle.clap.specs.declared.parser.matches.ArgMatches.{ArgMatches}
 use Rattle.net_defs.specs.declared.homes.HomeChoice.{HomeChoice}
@@ -8,7 +9,7 @@ use Rattle.net_defs.specs.declared.timing.Timing.{Timing}
 use Rattle.cmd_words.specs.declared.command.RunWords.{RunWords}
 use Rattle.cmd_words.specs.declared.command.WordNo.{WordNo}
 use Rattle.cmd_words.specs.Arguments.{Word, value_given}
-use Rattle.cmd_words.specs.Asked.{IsRefusal, Values, image_by, of_image, of_large, of_netlist, of_topic, of_two_files, large_by, run_by, run_with, says}
+use Rattle.cmd_words.specs.Asked.{Answers, IsRefusal, Values, image_by, of_image, of_large, of_netlist, of_topic, of_two_files, large_by, run_by, run_with, says}
 use Rattle.cmd_words.specs.code.Parses.{arguments_found, both_of, of_word, one_of, perhaps_one_of, three_of, value_found, settings_by, IsParsedAs}
 use Rattle.cmd_words.specs.Settings.{timing_by, banks_by, workers_by, homes_by}
 use Rattle.cmd_words.specs.Uses.{Found}
@@ -76,9 +77,10 @@ says_topic names words matches word is perhaps =
     says_found names words of_topic matches is ∙ topic_is (arguments_found matches) (value_found matches) word (sym perhaps)
 
 -- what is refused asks for no command
-pub made_refused : {T U : Type 0} (make : T → U) (answer : Option T) (refusal : WordNo) → IsRefusal answer refusal → IsRefusal (option_map make answer) refusal
-made_refused make answer refusal (inl full) = inl full
-made_refused make answer refusal (inr usage) = inr (usage.0, ap (option_map make) usage.1)
+pub refused_made : {T U : Type 0} (make : T → U) (answer : Option T) (given : WordNo) (result : Result U WordNo) → IsErrAnd result (λ no. no ≡ given) → IsRefusal answer given → Answers result (option_map make answer)
+refused_made make answer given (Ok x) says refused = absurd says
+refused_made make answer given (Err refusal) says (inl full) = inl (says ∙ full)
+refused_made make answer given (Err refusal) says (inr usage) = inr (says ∙ usage.0, ap (option_map make) usage.1)
 
 -- ---- a simulation, by its settings and its files
 

@@ -1,5 +1,5 @@
 -- The command that words ask for is the one whose form they have.
-use Rattle.std.proofs.Common.{◌≡◌, inl, inr, ℕ, Bool, true, false, List, [], ◌∷◌, Option, Some, None, option_map, refl, sym, ap, ap₂, ◌∙◌, codes}
+use Rattle.std.proofs.Common.{◌≡◌, inl, inr, ℕ, Bool, true, false, List, [], ◌∷◌, Option, Some, None, option_map, refl, sym, subst, ap, ap₂, ◌∙◌, codes}
 use Rattle.std.specs.Prelude.{bytes_eq, cond, find, flat_map, if◌then◌else◌, option_and_then, Result, Ok, Err, MatchResult}
 use Rattle.std.specs.List.{AllByRecursion, list_all}
 use Rattle.std.proofs.lemmas.Slice.Eq.{bytes_eq-Decides}
@@ -19,6 +19,7 @@ use Rattle.cmd_words.specs.declared.topic.Topic.TheVariants as topic
 use Rattle.cmd_words.specs.Topics.{topic_of, topic_words, topics, word_of}
 use Rattle.cmd_words.specs.Uses.{Found, parsed}
 use Rattle.cmd_words.proofs.ArgumentLemmas.{arguments_from, parsed_from}
+use Rattle.cmd_words.proofs.AskLemmas.{run_of}
 use Rattle.cmd_words.proofs.LookLemmas.{is_proper}
 
 -- ---- from the form to what is asked
@@ -29,19 +30,15 @@ call_says : {T : Type 0} (names : List Word) → list_all is_proper names ≡ tr
 call_says names proper reading name words arguments given call =
     ap (option_and_then (λ (found : Found). reading found.arguments (value_given found.given))) (parsed_from names proper call.others arguments given call.arguments_are)
 
--- the simulation of values
-run_is : (run : RunWords) (value : Values) → run.machine ≡ value (codes "machine") → run.order ≡ value (codes "order")
-    → run.last ≡ value (codes "last") → timing_by value ≡ Some run.timing → banks_by value ≡ Some run.banks → workers_by value ≡ Some run.workers → homes_by value ≡ Some run.homes → run.faults ≡ value (codes "faults") → run_by run.netlist run.stimulus value ≡ Some run
-run_is run value machine order last timing banks workers homes faults =
-    ap₂ (λ timing banks. run_with run.netlist run.stimulus value timing banks (workers_by value) (homes_by value)) timing banks
-    ∙ ap₂ (run_with run.netlist run.stimulus value (Some run.timing) (Some run.banks)) workers homes
-    ∙ ap₂ (λ machine order. Some (record run { machine = machine; order = order; last = value (codes "last"); faults = value (codes "faults") })) (sym machine) (sym order)
-    ∙ ap₂ (λ last faults. Some (record run { last = last; faults = faults })) (sym last) (sym faults)
-
+-- the simulation of a form's values
 form_run : (name : Word) (names words arguments : List Word) (run : RunWords) → (form : IsRun name names words arguments run)
     → run_by run.netlist run.stimulus (value_given form.given) ≡ Some run
 form_run name names words arguments run form =
-    run_is run (value_given form.given) form.machine form.order form.last form.timing form.banks form.workers form.homes form.faults
+    let value = value_given form.given in
+    ap₂ (λ timing banks. run_with run.netlist run.stimulus value timing banks (workers_by value) (homes_by value)) form.timing form.banks
+    ∙ ap₂ (run_with run.netlist run.stimulus value (Some run.timing) (Some run.banks)) form.workers form.homes
+    ∙ ap₂ (λ machine order. Some (record run { machine = machine; order = order; last = value (codes "last"); faults = value (codes "faults") })) (sym form.machine) (sym form.order)
+    ∙ ap₂ (λ last faults. Some (record run { last = last; faults = faults })) (sym form.last) (sym form.faults)
 
 run_says : (names : List Word) → list_all is_proper names ≡ true → (name : Word) (words : List Word) (run : RunWords) → (form : IsRun name names words (run.netlist ∷ run.stimulus ∷ []) run)
     → says names of_two_files form.call.others ≡ Some run
@@ -129,8 +126,8 @@ made_back : {T : Type 0} (make : T → Command) (given : Option T) (command : Co
 made_back make None command e = cc
 made_back make (Some answer) command e = record { answer = answer; given_is = refl; command_is = cc }
 
-record IsRunBy (arguments : List Word) (value : Values) (run : RunWords) : Type 0 where
-  pub arguments_are : arguments ≡ run.netlist ∷ run.stimulus ∷ []
+-- the run has what the values of options say
+record IsSetBy (value : Values) (run : RunWords) : Type 0 where
   pub machine : run.machine ≡ value (codes "machine")
   pub order : run.order ≡ value (codes "order")
   pub last : run.last ≡ value (codes "last")
@@ -140,42 +137,39 @@ record IsRunBy (arguments : List Word) (value : Values) (run : RunWords) : Type 
   pub homes : homes_by value ≡ Some run.homes
   pub faults : run.faults ≡ value (codes "faults")
 
-run_back : (netlist stimulus : Word) (value : Values) (run : RunWords) → run_by netlist stimulus value ≡ Some run → IsRunBy (netlist ∷ stimulus ∷ []) value run
+run_back : (netlist stimulus : Word) (value : Values) (run : RunWords) → run_by netlist stimulus value ≡ Some run → (netlist ≡ run.netlist) × (stimulus ≡ run.stimulus) × IsSetBy value run
 run_back netlist stimulus value run e = go (timing_by value) (banks_by value) (workers_by value) (homes_by value) refl refl refl refl e
   where
     go : (timing : Option Timing) (banks workers : Option ℕ) (homes : Option HomeChoice) → timing_by value ≡ timing → banks_by value ≡ banks → workers_by value ≡ workers → homes_by value ≡ homes
-        → run_with netlist stimulus value timing banks workers homes ≡ Some run → IsRunBy (netlist ∷ stimulus ∷ []) value run
+        → run_with netlist stimulus value timing banks workers homes ≡ Some run → (netlist ≡ run.netlist) × (stimulus ≡ run.stimulus) × IsSetBy value run
     go (Some timing) (Some banks) (Some workers) (Some homes) t b w h e =
-        let is = one_some (record {
-          netlist = netlist;
-          stimulus = stimulus;
-          machine = value (codes "machine");
-          order = value (codes "order");
-          last = value (codes "last");
-          timing = timing;
-          banks = banks;
-          workers = workers;
-          homes = homes;
-          faults = value (codes "faults");
-        }) run e in
-        record {
-          arguments_are = ap (λ (run : RunWords). run.netlist ∷ run.stimulus ∷ []) is;
-          machine = sym (ap (λ (run : RunWords). run.machine) is);
-          order = sym (ap (λ (run : RunWords). run.order) is);
-          last = sym (ap (λ (run : RunWords). run.last) is);
-          timing = t ∙ ap (λ (run : RunWords). Some run.timing) is;
-          banks = b ∙ ap (λ (run : RunWords). Some run.banks) is;
-          workers = w ∙ ap (λ (run : RunWords). Some run.workers) is;
-          homes = h ∙ ap (λ (run : RunWords). Some run.homes) is;
-          faults = sym (ap (λ (run : RunWords). run.faults) is);
-        }
+        subst (λ (run : RunWords). (netlist ≡ run.netlist) × (stimulus ≡ run.stimulus) × IsSetBy value run) (one_some (run_of netlist stimulus value (timing, banks, workers, homes)) run e)
+        (refl, refl, record { machine = refl; order = refl; last = refl; timing = t; banks = b; workers = w; homes = h; faults = refl })
     go (Some timing) (Some banks) (Some workers) None t b w h e = cc
     go (Some timing) (Some banks) None homes t b w h e = cc
     go (Some timing) None workers homes t b w h e = cc
     go None banks workers homes t b w h e = cc
 
-two_back : (arguments : List Word) (value : Values) (run : RunWords) → of_two_files arguments value ≡ Some run → IsRunBy arguments value run
-two_back (netlist ∷ stimulus ∷ []) value run e = run_back netlist stimulus value run e
+-- arguments that are these files are of the form of a run that has what their options say
+form_of : (names : List Word) (name : Word) (words files : List Word) (found : Found) (run : RunWords) → AreArguments names words found.arguments found.given → found.arguments ≡ files
+    → IsSetBy (value_given found.given) run → IsRun name names (name ∷ words) files run
+form_of names name words files found run are is set = record {
+  given = found.given;
+  call = record { others = words; words_are = refl; arguments_are = rw is at are };
+  machine = set.machine;
+  order = set.order;
+  last = set.last;
+  timing = set.timing;
+  banks = set.banks;
+  workers = set.workers;
+  homes = set.homes;
+  faults = set.faults;
+}
+
+two_back : (arguments : List Word) (value : Values) (run : RunWords) → of_two_files arguments value ≡ Some run → (arguments ≡ run.netlist ∷ run.stimulus ∷ []) × IsSetBy value run
+two_back (netlist ∷ stimulus ∷ []) value run e =
+    let is = run_back netlist stimulus value run e in
+    (ap₂ (λ (netlist stimulus : Word). netlist ∷ stimulus ∷ []) is.0 is.1, is.2)
 two_back [] value run e = cc
 two_back (one ∷ []) value run e = cc
 two_back (one ∷ other ∷ third ∷ others) value run e = cc
@@ -185,38 +179,13 @@ run_form : (names : List Word) (name : Word) (words : List Word) (run : RunWords
 run_form names name words run e =
     let so = says_back names of_two_files words run e in
     let is = two_back so.found.arguments (value_given so.found.given) run so.answers in
-    record {
-      given = so.found.given;
-      call = record { others = words; words_are = refl; arguments_are = rw (is.arguments_are) at so.arguments };
-      machine = is.machine;
-      order = is.order;
-      last = is.last;
-      timing = is.timing;
-      banks = is.banks;
-      workers = is.workers;
-      homes = is.homes;
-      faults = is.faults;
-    }
-
--- two lists of two words
-both_same : (a b c d : Word) → a ∷ b ∷ [] ≡ c ∷ d ∷ [] → (a ≡ c) × (b ≡ d)
-both_same a b c d same = (cc, cc)
+    form_of names name words _ so.found run so.arguments is.0 is.1
 
 -- the one file of a layout, which has no stimulus
-record IsLayoutBy (arguments : List Word) (value : Values) (run : RunWords) : Type 0 where
-  pub arguments_are : arguments ≡ run.netlist ∷ []
-  pub none : run.stimulus ≡ []
-  pub is : IsRunBy (run.netlist ∷ run.stimulus ∷ []) value run
-
-layout_back : (arguments : List Word) (value : Values) (run : RunWords) → of_netlist arguments value ≡ Some run → IsLayoutBy arguments value run
+layout_back : (arguments : List Word) (value : Values) (run : RunWords) → of_netlist arguments value ≡ Some run → (arguments ≡ run.netlist ∷ []) × (run.stimulus ≡ []) × IsSetBy value run
 layout_back (netlist ∷ []) value run e =
     let is = run_back netlist [] value run e in
-    let same = both_same netlist [] run.netlist run.stimulus is.arguments_are in
-    record {
-      arguments_are = ap (λ (word : Word). word ∷ []) same.0;
-      none = sym same.1;
-      is = record { arguments_are = refl; machine = is.machine; order = is.order; last = is.last; timing = is.timing; banks = is.banks; workers = is.workers; homes = is.homes; faults = is.faults };
-    }
+    (ap (λ (word : Word). word ∷ []) is.0, sym is.1, is.2)
 layout_back [] value run e = cc
 layout_back (one ∷ other ∷ others) value run e = cc
 
@@ -224,21 +193,8 @@ layout_form : (names : List Word) (name : Word) (words : List Word) (run : RunWo
     → IsRun name names (name ∷ words) (run.netlist ∷ []) run × (run.stimulus ≡ [])
 layout_form names name words run e =
     let so = says_back names of_netlist words run e in
-    let by = layout_back so.found.arguments (value_given so.found.given) run so.answers in (
-      record {
-        given = so.found.given;
-        call = record { others = words; words_are = refl; arguments_are = rw (by.arguments_are) at so.arguments };
-        machine = by.is.machine;
-        order = by.is.order;
-        last = by.is.last;
-        timing = by.is.timing;
-        banks = by.is.banks;
-        workers = by.is.workers;
-        homes = by.is.homes;
-        faults = by.is.faults;
-      },
-      by.none,
-    )
+    let is = layout_back so.found.arguments (value_given so.found.given) run so.answers in
+    (form_of names name words _ so.found run so.arguments is.0 is.2, is.1)
 
 -- a simulation by an image
 record IsImageMade (arguments : List Word) (value : Values) (command : Command) : Type 0 where
@@ -246,7 +202,7 @@ record IsImageMade (arguments : List Word) (value : Values) (command : Command) 
   pub image : Word
   pub command_is : command ≡ Exec run image
   pub arguments_are : arguments ≡ run.netlist ∷ image ∷ run.stimulus ∷ []
-  pub is : IsRunBy (run.netlist ∷ run.stimulus ∷ []) value run
+  pub set : IsSetBy value run
 
 image_back : (arguments : List Word) (value : Values) (command : Command) → of_image arguments value ≡ Some command → IsImageMade arguments value command
 image_back (netlist ∷ image ∷ stimulus ∷ []) value command e = go (run_by netlist stimulus value) refl e
@@ -256,13 +212,12 @@ image_back (netlist ∷ image ∷ stimulus ∷ []) value command e = go (run_by 
     go None by e = cc
     go (Some run) by e =
         let is = run_back netlist stimulus value run by in
-        let same = both_same netlist stimulus run.netlist run.stimulus is.arguments_are in
         record {
           run = run;
           image = image;
           command_is = sym (one_some (Exec run image) command e);
-          arguments_are = ap₂ (λ (netlist stimulus : Word). netlist ∷ image ∷ stimulus ∷ []) same.0 same.1;
-          is = record { arguments_are = refl; machine = is.machine; order = is.order; last = is.last; timing = is.timing; banks = is.banks; workers = is.workers; homes = is.homes; faults = is.faults };
+          arguments_are = ap₂ (λ (netlist stimulus : Word). netlist ∷ image ∷ stimulus ∷ []) is.0 is.1;
+          set = is.2;
         }
 image_back [] value command e = cc
 image_back (one ∷ []) value command e = cc
@@ -273,18 +228,7 @@ image_form : (words : List Word) (command : Command) → says exec_options of_im
 image_form words command e =
     let so = says_back exec_options of_image words command e in
     let made = image_back so.found.arguments (value_given so.found.given) command so.answers in
-    rw (made.command_is) (record {
-      given = so.found.given;
-      call = record { others = words; words_are = refl; arguments_are = rw (made.arguments_are) at so.arguments };
-      machine = made.is.machine;
-      order = made.is.order;
-      last = made.is.last;
-      timing = made.is.timing;
-      banks = made.is.banks;
-      workers = made.is.workers;
-      homes = made.is.homes;
-      faults = made.is.faults;
-    })
+    rw (made.command_is) (form_of exec_options (codes "exec") words _ so.found made.run so.arguments made.arguments_are made.set)
 
 one_back : (arguments : List Word) (value : Values) (netlist : Word) → of_one_file arguments value ≡ Some netlist → arguments ≡ netlist ∷ []
 one_back (one ∷ []) value netlist e = let same : one ≡ netlist = cc in ap (λ word. word ∷ []) same
@@ -298,32 +242,33 @@ no_options (alone word ∷ pieces) are = no_options pieces are.1
 no_options (spaced name value ∷ pieces) are = let bad : false ≡ true = are.0.0 in cc
 no_options (joined name value ∷ pieces) are = let bad : false ≡ true = are.0.0 in cc
 
-show_form : (words : List Word) (netlist : Word) → says show_options of_one_file words ≡ Some netlist → IsCall (codes "show") show_options (codes "show" ∷ words) (netlist ∷ []) []
-show_form words netlist e =
-    let so = says_back show_options of_one_file words netlist e in
+-- such a command, by what its arguments are
+bare_form : {T : Type 0} (reading : List Word → Values → Option T) (name : Word) (words arguments : List Word) (answer : T)
+    → ((found : List Word) (value : Values) → reading found value ≡ Some answer → found ≡ arguments) → says [] reading words ≡ Some answer → IsCall name [] (name ∷ words) arguments []
+bare_form reading name words arguments answer back e =
+    let so = says_back [] reading words answer e in
     let none : so.found.given ≡ [] = so.arguments.given_are ∙ no_options so.arguments.pieces so.arguments.pieces_are in
     record {
       others = words;
       words_are = refl;
-      arguments_are = rw (one_back so.found.arguments (value_given so.found.given) netlist so.answers, none) at so.arguments;
+      arguments_are = rw (back so.found.arguments (value_given so.found.given) so.answers, none) at so.arguments;
     }
 
--- the numbers of a generated design
-record IsLargeBy (arguments : List Word) (value : Values) (gates cycles workers : ℕ) : Type 0 where
+show_form : (words : List Word) (netlist : Word) → says show_options of_one_file words ≡ Some netlist → IsCall (codes "show") show_options (codes "show" ∷ words) (netlist ∷ []) []
+show_form words netlist = bare_form of_one_file (codes "show") words (netlist ∷ []) netlist (λ found value. one_back found value netlist)
+
+-- a command of a generated design, by its numbers
+record IsLargeMade (arguments : List Word) (value : Values) (command : Command) : Type 0 where
+  pub gates : ℕ
+  pub cycles : ℕ
+  pub workers : ℕ
+  pub command_is : command ≡ Large gates cycles workers
   pub gates_word : Word
   pub cycles_word : Word
   pub arguments_are : arguments ≡ gates_word ∷ cycles_word ∷ []
   pub gates_are : gates_of gates_word ≡ Some gates
   pub cycles_are : cycles_of cycles_word ≡ Some cycles
   pub workers_are : workers_by value ≡ Some workers
-
--- a command of a generated design
-record IsLargeMade (arguments : List Word) (value : Values) (command : Command) : Type 0 where
-  pub gates : ℕ
-  pub cycles : ℕ
-  pub workers : ℕ
-  pub command_is : command ≡ Large gates cycles workers
-  pub by : IsLargeBy arguments value gates cycles workers
 
 large_back : (arguments : List Word) (value : Values) (command : Command) → of_large arguments value ≡ Some command → IsLargeMade arguments value command
 large_back (gates ∷ cycles ∷ []) value command e = go (gates_of gates) (cycles_of cycles) (workers_by value) refl refl refl e
@@ -336,7 +281,12 @@ large_back (gates ∷ cycles ∷ []) value command e = go (gates_of gates) (cycl
           cycles = c;
           workers = w;
           command_is = sym (one_some (Large g c w) command e);
-          by = record { gates_word = gates; cycles_word = cycles; arguments_are = refl; gates_are = gs; cycles_are = cs; workers_are = ws };
+          gates_word = gates;
+          cycles_word = cycles;
+          arguments_are = refl;
+          gates_are = gs;
+          cycles_are = cs;
+          workers_are = ws;
         }
     go (Some g) (Some c) None gs cs ws e = cc
     go (Some g) None w gs cs ws e = cc
@@ -350,13 +300,13 @@ large_form words command e =
     let so = says_back large_options of_large words command e in
     let made = large_back so.found.arguments (value_given so.found.given) command so.answers in
     rw (made.command_is) (record {
-      gates_word = made.by.gates_word;
-      cycles_word = made.by.cycles_word;
+      gates_word = made.gates_word;
+      cycles_word = made.cycles_word;
       given = so.found.given;
-      call = record { others = words; words_are = refl; arguments_are = rw (made.by.arguments_are) at so.arguments };
-      gates_are = made.by.gates_are;
-      cycles_are = made.by.cycles_are;
-      workers_are = made.by.workers_are;
+      call = record { others = words; words_are = refl; arguments_are = rw (made.arguments_are) at so.arguments };
+      gates_are = made.gates_are;
+      cycles_are = made.cycles_are;
+      workers_are = made.workers_are;
     })
 
 -- what is found of a word is a command of this word
@@ -379,14 +329,7 @@ topic_back (word ∷ []) value topic e = go (topic_of word) refl e
 topic_back (one ∷ other ∷ others) value topic e = cc
 
 help_form : (words : List Word) (topic : Option Topic) → says help_options of_topic words ≡ Some topic → IsCall (codes "help") help_options (codes "help" ∷ words) (topic_words topic) []
-help_form words topic e =
-    let so = says_back help_options of_topic words topic e in
-    let none : so.found.given ≡ [] = so.arguments.given_are ∙ no_options so.arguments.pieces so.arguments.pieces_are in
-    record {
-      others = words;
-      words_are = refl;
-      arguments_are = rw (topic_back so.found.arguments (value_given so.found.given) topic so.answers, none) at so.arguments;
-    }
+help_form words topic = bare_form of_topic (codes "help") words (topic_words topic) topic (λ found value. topic_back found value topic)
 
 -- a command is the one that is named, or one of the others
 picked : (name text : Word) (words : List Word) (given rest : Option Command) (command : Command)

@@ -44,12 +44,12 @@ pub look_end : look dashes ≡ the_end
 unfolding look
 look_end = refl
 
+no_name : is_proper [] ≡ true → ⊥
+no_name proper = cc
+
 pub look_named : (name : Word) → is_proper name ≡ true → look (dashes ++ name) ≡ an_option name None
 unfolding look
 look_named [] proper = absurd (no_name proper)
-  where
-    no_name : is_proper [] ≡ true → ⊥
-    no_name proper = cc
 look_named (first ∷ name) proper =
     let parts = and_parts (is_filled (first ∷ name)) (list_all (λ byte. not (byte == 61)) (first ∷ name)) proper in
     ap (λ (cut : Word × Option Word). an_option cut.0 cut.1) (name_and_value-without (first ∷ name) (lacks_equals (first ∷ name) parts.1))
@@ -57,9 +57,6 @@ look_named (first ∷ name) proper =
 pub look_joined : (name value : Word) → is_proper name ≡ true → look (dashes ++ (name ++ 61 ∷ value)) ≡ an_option name (Some value)
 unfolding look
 look_joined [] value proper = absurd (no_name proper)
-  where
-    no_name : is_proper [] ≡ true → ⊥
-    no_name proper = cc
 look_joined (first ∷ name) value proper =
     let parts = and_parts (is_filled (first ∷ name)) (list_all (λ byte. not (byte == 61)) (first ∷ name)) proper in
     ap (λ (cut : Word × Option Word). an_option cut.0 cut.1) (name_and_value-at (first ∷ name) value (lacks_equals (first ∷ name) parts.1))

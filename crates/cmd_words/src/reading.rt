@@ -84,46 +84,31 @@ fn read_command(alloc: Global, name: &[u8], words: &[String]) -> Result<Command,
 fn run(alloc: Global, words: &[String]) -> Result<Command, WordNo>
     ensures { Answers result (option_map command.Run (says run_options of_two_files (map string_bytes words.now))) }
 {
-    match simulation(alloc, words, RUN.as_slice()) {
-        Ok(words) => Ok(Command::Run(words)),
-        Err(no) => Err(no),
-    }
+    Ok(Command::Run(simulation(alloc, words, RUN.as_slice())?))
 }
 
 fn refer(alloc: Global, words: &[String]) -> Result<Command, WordNo>
     ensures { Answers result (option_map command.Refer (says refer_options of_two_files (map string_bytes words.now))) }
 {
-    match simulation(alloc, words, REFER.as_slice()) {
-        Ok(words) => Ok(Command::Refer(words)),
-        Err(no) => Err(no),
-    }
+    Ok(Command::Refer(simulation(alloc, words, REFER.as_slice())?))
 }
 
 fn order(alloc: Global, words: &[String]) -> Result<Command, WordNo>
     ensures { Answers result (option_map command.Order (says order_options of_two_files (map string_bytes words.now))) }
 {
-    match simulation(alloc, words, ORDER.as_slice()) {
-        Ok(words) => Ok(Command::Order(words)),
-        Err(no) => Err(no),
-    }
+    Ok(Command::Order(simulation(alloc, words, ORDER.as_slice())?))
 }
 
 fn plan(alloc: Global, words: &[String]) -> Result<Command, WordNo>
     ensures { Answers result (option_map command.Plan (says plan_options of_netlist (map string_bytes words.now))) }
 {
-    match layout(alloc, words, PLAN.as_slice()) {
-        Ok(words) => Ok(Command::Plan(words)),
-        Err(no) => Err(no),
-    }
+    Ok(Command::Plan(layout(alloc, words, PLAN.as_slice())?))
 }
 
 fn compile(alloc: Global, words: &[String]) -> Result<Command, WordNo>
     ensures { Answers result (option_map command.Compile (says compile_options of_netlist (map string_bytes words.now))) }
 {
-    match layout(alloc, words, COMPILE.as_slice()) {
-        Ok(words) => Ok(Command::Compile(words)),
-        Err(no) => Err(no),
-    }
+    Ok(Command::Compile(layout(alloc, words, COMPILE.as_slice())?))
 }
 
 fn exec(alloc: Global, words: &[String]) -> Result<Command, WordNo>
@@ -135,37 +120,26 @@ fn exec(alloc: Global, words: &[String]) -> Result<Command, WordNo>
 fn pack(alloc: Global, words: &[String]) -> Result<Command, WordNo>
     ensures { Answers result (option_map command.Pack (says pack_options of_two_files (map string_bytes words.now))) }
 {
-    match simulation(alloc, words, PACK.as_slice()) {
-        Ok(words) => Ok(Command::Pack(words)),
-        Err(no) => Err(no),
-    }
+    Ok(Command::Pack(simulation(alloc, words, PACK.as_slice())?))
 }
 
 fn fault(alloc: Global, words: &[String]) -> Result<Command, WordNo>
     ensures { Answers result (option_map command.Fault (says fault_options of_two_files (map string_bytes words.now))) }
 {
-    match simulation(alloc, words, FAULT.as_slice()) {
-        Ok(words) => Ok(Command::Fault(words)),
-        Err(no) => Err(no),
-    }
+    Ok(Command::Fault(simulation(alloc, words, FAULT.as_slice())?))
 }
 
 fn cover(alloc: Global, words: &[String]) -> Result<Command, WordNo>
     ensures { Answers result (option_map command.Cover (says cover_options of_two_files (map string_bytes words.now))) }
 {
-    match simulation(alloc, words, COVER.as_slice()) {
-        Ok(words) => Ok(Command::Cover(words)),
-        Err(no) => Err(no),
-    }
+    Ok(Command::Cover(simulation(alloc, words, COVER.as_slice())?))
 }
 
 fn show(alloc: Global, words: &[String]) -> Result<Command, WordNo>
     ensures { Answers result (option_map command.Show (says show_options of_one_file (map string_bytes words.now))) }
 {
-    match netlist(alloc, words, SHOW.as_slice()) {
-        Ok(netlist) => Ok(Command::Show { netlist }),
-        Err(no) => Err(no),
-    }
+    let netlist = netlist(alloc, words, SHOW.as_slice())?;
+    Ok(Command::Show { netlist })
 }
 
 fn large(alloc: Global, words: &[String]) -> Result<Command, WordNo>
@@ -177,10 +151,7 @@ fn large(alloc: Global, words: &[String]) -> Result<Command, WordNo>
 fn help(alloc: Global, words: &[String]) -> Result<Command, WordNo>
     ensures { Answers result (option_map command.Help (says help_options of_topic (map string_bytes words.now))) }
 {
-    match topic(alloc, words, HELP.as_slice()) {
-        Ok(topic) => Ok(Command::Help(topic)),
-        Err(no) => Err(no),
-    }
+    Ok(Command::Help(topic(alloc, words, HELP.as_slice())?))
 }
 
 // ---- what commands have in common
@@ -239,9 +210,7 @@ fn netlist<'a>(alloc: Global, words: &'a [String], options: &'a [&'a str]) -> Re
     ensures { Answers result (says (texts_in options.entry.now) of_one_file (map string_bytes words.entry.now)) }
 {
     let matches = parse(alloc, words, options)?;
-    let found = one_argument(&matches);
-    drop(matches);
-    match found {
+    match one_argument(&matches) {
         Some(netlist) => Ok(Text::from_bytes(alloc, netlist.as_bytes())?),
         None => Err(WordNo::Usage),
     }
@@ -273,9 +242,7 @@ fn topic<'a>(
     ensures { Answers result (says (texts_in options.entry.now) of_topic (map string_bytes words.entry.now)) }
 {
     let matches = parse(alloc, words, options)?;
-    let found = perhaps_argument(&matches);
-    drop(matches);
-    match found {
+    match perhaps_argument(&matches) {
         Some(word) => topic_named(word),
         None => Err(WordNo::Usage),
     }

@@ -1,5 +1,6 @@
 -- Steps of a call, one after the other: each begins its files, and what it lets pass goes on.
 use Rattle.std.proofs.Common.{◌≡◌, sym, refl, subst, inl, inr, ℕ, Bool, List, [], ◌∷◌, ◌++◌, Option, Some, None, Result, Ok, Err}
+use Rattle.std.specs.Result.{IfOk, IsErrAnd}
 use Rattle.std.proofs.lemmas.List.{append_assoc}
 use Rattle.edge_io.specs.declared.counts.FileCounts.{FileCounts}
 use Rattle.refusal_lines.specs.declared.refusal.Refusal.{Refusal}
@@ -17,7 +18,17 @@ pub only_so : {X : Type 0} (x : X) (rest : List Reading) (outcome : Outcome) (Ne
 only_so x rest outcome Next next y more other (value, readings, same) =
     subst (λ v. Next v more other) (sym value) (subst (λ r. Next x r other) (sym readings) (subst (λ o. Next x rest o) (sym same) next))
 
+-- nothing is claimed of a value that a refusal doesn't have
+pub no_value : {X : Type 0} (P : X → Type 0) (why : Refusal) (result : Result X Refusal) → IsErrAnd result (λ no. no ≡ why) → IfOk result P
+no_value P why (Ok x) says = absurd says
+no_value P why (Err other) says = tt
+
 module _ (names : Option (List ℕ → Bool)) (bytes : Option (List ℕ → List ℕ)) where
+  -- a call that answers the refusal of its step
+  pub stopped : {X : Type 0} (Step : Continuation X → List Reading → Outcome → Type 0) (old new : FileCounts) (why : Refusal) (result : Result X Refusal) → IsErrAnd result (λ no. no ≡ why) → Passes names bytes old new Step (Err why) → Passes names bytes old new Step result
+  stopped Step old new why (Ok x) says passes = absurd says
+  stopped Step old new why (Err other) says passes = subst (λ w. Passes names bytes old new Step (Err w)) (sym says) passes
+
   module _ {X : Type 0} (Step : Continuation X → List Reading → Outcome → Type 0) (so : (One Other : Continuation X) → ((x : X) → Implies (One x) (Other x)) → Implies (Step One) (Step Other)) where
     -- two steps
     pub both_pass : {Y : Type 0} (Then : X → Continuation Y → List Reading → Outcome → Type 0) (x : X) (names-then : Option (List ℕ → Bool)) (bytes-then : Option (List ℕ → List ℕ)) (old mid new : FileCounts) (result : Result Y Refusal) → names-then ≡ names → bytes-then ≡ bytes
@@ -37,12 +48,12 @@ module _ (names : Option (List ℕ → Bool)) (bytes : Option (List ℕ → List
             so (Only x next.readings (refused_of why)) (λ v. Then v Never) (only_so x next.readings (refused_of why) (λ v. Then v Never) steps)
             (first.readings ++ next.readings) (refused_of why) (first.steps next.readings (refused_of why))
 
-    pub first_stops : {Y : Type 0} (Then : X → Continuation Y → List Reading → Outcome → Type 0) (old new : FileCounts) (why : Refusal) → Passes names bytes old new Step (Err why) → Passes {X = Y} names bytes old new (λ Next. Step (λ v. Then v Next)) (Err why)
-    first_stops Then old new why first = record {
+    pub first_stops : {Y : Type 0} (Then : X → Continuation Y → List Reading → Outcome → Type 0) (old new : FileCounts) (why : Refusal) (result : Result Y Refusal) → IsErrAnd result (λ no. no ≡ why) → Passes names bytes old new Step (Err why) → Passes names bytes old new (λ Next. Step (λ v. Then v Next)) result
+    first_stops Then old new why result says first = stopped (λ Next. Step (λ v. Then v Next)) old new why result says (record {
       readings = first.readings;
       are = first.are;
       steps = so Never (λ v. Then v Never) (λ x readings outcome never. absurd never) first.readings (refused_of why) first.steps;
-    }
+    })
 
   -- a file, and a check of its text
   module _ {X : Type 0} (Check : List ℕ → Result X Outcome → Type 0) (old new : FileCounts) (file : List ℕ) where
@@ -60,16 +71,16 @@ module _ (names : Option (List ℕ → Bool)) (bytes : Option (List ℕ → List
         by None reading answer = absurd answer
         by (Some read) reading answer = record { readings = record { file = file; bytes = Some read } ∷ []; are = reading; steps = steps read answer result is }
 
-    pub file_stops : (why : Refusal) → GivesText names bytes old new file (Err why) → Passes names bytes old new checked (Err why)
-    file_stops why gives = by gives.gave gives.reading gives.text
+    pub file_stops : (why : Refusal) (result : Result X Refusal) → IsErrAnd result (λ no. no ≡ why) → GivesText names bytes old new file (Err why) → Passes names bytes old new checked result
+    file_stops why result says gives = stopped checked old new why result says (by gives.gave gives.reading gives.text)
       where
         by : (gave : Option (List ℕ)) → AreReadings names bytes old new (record { file = file; bytes = gave } ∷ []) → AnswersText file gave (Err why) → Passes names bytes old new checked (Err why)
         by None reading answer = record { readings = record { file = file; bytes = None } ∷ []; are = reading; steps = (refl, (refl, answer)) }
         by (Some read) reading answer = record { readings = record { file = file; bytes = Some read } ∷ []; are = reading; steps = (refl, inr (refl, answer)) }
 
   -- a value that needs no file
-  pub value_passes : {X : Type 0} (Step : Continuation X → List Reading → Outcome → Type 0) (x : X) (counts : FileCounts) → ((rest : List Reading) (outcome : Outcome) → Step (Only x rest outcome) rest outcome) → Passes names bytes counts counts Step (Ok x)
-  value_passes Step x counts steps = record { readings = []; are = no_readings names bytes counts; steps = steps }
+  pub value_passes : {X : Type 0} (y x : X) (counts : FileCounts) → y ≡ x → Passes names bytes counts counts (λ Next. Next y) (Ok x)
+  value_passes y x counts same = record { readings = []; are = no_readings names bytes counts; steps = λ rest outcome. (same, refl, refl) }
 
   -- a check that begins no file
   module _ {X Y : Type 0} (Checked : Result X Outcome → Type 0) (Then : X → Continuation Y → List Reading → Outcome → Type 0) where

@@ -9,13 +9,16 @@ use Rattle.bench_read.specs.declared.refusal.FaultNo.TheVariants as fault_no
 use Rattle.bench_read.specs.Faults as bench
 use Rattle.bench_read.specs.StuckLists as stuck_lists
 use Rattle.bench_read.specs.GateLists as gate_lists
+use Rattle.image_file.specs.declared.refusal.ImageNo.{ImageNo}
+use Rattle.image_file.specs.declared.refusal.ImageNo.TheVariants as image_no
+use Rattle.image_file.specs.Reading as image_texts
 use Rattle.machine_text.specs.declared.machine.MachNo.{MachNo}
 use Rattle.machine_text.specs.declared.machine.MachNo.TheVariants as mach_no
 use Rattle.machine_text.specs.declared.machine.Machine.{Machine}
 use Rattle.machine_text.specs.Machines.{first_fault, ports_of}
 use Rattle.net_defs.specs.declared.netlist.Netlist.{Netlist}
 use Rattle.net_defs.specs.Valid.{input_count}
-use Rattle.refusal_lines.specs.Refusals.{of_faults, of_lanes, of_list, of_machine, of_netlist, of_order, of_stimulus}
+use Rattle.refusal_lines.specs.Refusals.{of_faults, of_image, of_lanes, of_list, of_machine, of_netlist, of_order, of_stimulus}
 use Rattle.stim_text.specs.declared.refusal.LaneNo.{LaneNo}
 use Rattle.stim_text.specs.declared.refusal.LaneNo.TheVariants as lane_no
 use Rattle.stim_text.specs.declared.refusal.OrderNo.{OrderNo}
@@ -26,6 +29,7 @@ use Rattle.stim_text.specs.LaneTexts as lane_texts
 use Rattle.stim_text.specs.Orders as orders
 use Rattle.stim_text.specs.Stimuli as stim
 use Rattle.named_files.specs.Checks.{IsFaultListOf, IsLanesOf, IsListOf, IsMachineOf, IsNetlistOf, IsOrderOf, IsStimulusOf, Refuses}
+use Rattle.named_files.specs.Images.{IsImageFileOf}
 use Rattle.named_files.specs.Refused.{refused_of}
 
 pub machine_refused : (text : List ℕ) (why : MachNo) → (why ≡ mach_no.Memory) ⊎ (first_fault text ≡ Some why) → Refuses (IsMachineOf text) (refused_of (of_machine why))
@@ -62,3 +66,8 @@ pub order_refused : (text : List ℕ) (machine : Machine) (why : OrderNo) → (w
 order_refused text machine why (inl same) = inr (ap (λ w. refused_of (of_order w)) same)
 order_refused text machine order_no.Memory (inr fault) = inr refl
 order_refused text machine why (inr fault) = inl (why, fault, refl)
+
+pub image_refused : (text : List ℕ) (why : ImageNo) → (why ≡ image_no.Memory) ⊎ (image_texts.first_fault text ≡ Some why) → Refuses (IsImageFileOf text) (refused_of (of_image why))
+image_refused text why (inl same) = inr (ap (λ w. refused_of (of_image w)) same)
+image_refused text image_no.Memory (inr fault) = inr refl
+image_refused text why (inr fault) = inl (why, fault, refl)

@@ -109,10 +109,8 @@ pub fn planned_on_machine<'a, F: Files>(
         (AfterPlaced words.now) result }
     ensures homes { IfOk result (λ design. design.homes ≡ words.now.homes) }
 {
-    match machine_from(alloc, files, &words.machine) {
-        Ok(machine) => place(alloc, files, words, machine),
-        Err(no) => Err(no),
-    }
+    let machine = machine_from(alloc, files, &words.machine)?;
+    place(alloc, files, words, machine)
 }
 
 /// The design of the words on this machine.
@@ -130,10 +128,7 @@ fn place<'a, F: Files>(
         (AfterPlacedOn words.now machine) result }
     ensures homes { IfOk result (λ design. design.homes ≡ words.now.homes) }
 {
-    let Timed { net, timing } = match design_from(alloc, files, words) {
-        Ok(timed) => timed,
-        Err(no) => return Err(no),
-    };
+    let Timed { net, timing } = design_from(alloc, files, words)?;
     match compile_with(alloc, &net, &machine, &timing, words.homes) {
         Ok(chosen) => Ok(Planned {
             homes: words.homes,
@@ -159,10 +154,8 @@ pub fn design_on_machine<'a, F: Files>(
         (AfterPlaced words.now) result }
     ensures homes { IfOk result (λ design. design.homes ≡ words.now.homes) }
 {
-    match planned_on_machine(alloc, files, words) {
-        Ok(planned) => Ok(on_machine(planned)),
-        Err(no) => Err(no),
-    }
+    let planned = planned_on_machine(alloc, files, words)?;
+    Ok(on_machine(planned))
 }
 
 /// The image of a design. What it was made from is given up.
@@ -198,14 +191,9 @@ pub fn ready_on_machine<'a, F: Files>(
         (AfterReady words.now) result }
     ensures homes { IfOk result (λ ready. ready.placed.homes ≡ words.now.homes) }
 {
-    let design = match design_on_machine(alloc, files, words) {
-        Ok(design) => design,
-        Err(no) => return Err(no),
-    };
-    match stimulus_in(alloc, files, words.stimulus.as_bytes(), &design.run.net) {
-        Ok(stimulus) => Ok(Ready { design, stimulus }),
-        Err(no) => Err(no),
-    }
+    let design = design_on_machine(alloc, files, words)?;
+    let stimulus = stimulus_in(alloc, files, words.stimulus.as_bytes(), &design.run.net)?;
+    Ok(Ready { design, stimulus })
 }
 
 /// The image of this file, in the netlist and the timing of the words.
@@ -222,14 +210,9 @@ pub fn runnable_in<'a, F: Files>(
         (AfterRunnable words.now file.now) result }
     ensures runnable { IfOk result IsRunnable }
 {
-    let Timed { net, timing } = match design_from(alloc, files, words) {
-        Ok(timed) => timed,
-        Err(no) => return Err(no),
-    };
-    match built_in(alloc, files, net, &timing, file) {
-        Ok(Built { net, image }) => Ok(Runnable { timing, net, image }),
-        Err(no) => Err(no),
-    }
+    let Timed { net, timing } = design_from(alloc, files, words)?;
+    let Built { net, image } = built_in(alloc, files, net, &timing, file)?;
+    Ok(Runnable { timing, net, image })
 }
 
 /// The netlist with the image of this file, which it accepts.
@@ -249,14 +232,9 @@ fn built_in<'a, F: Files>(
     ensures same { IfOk result (λ built. built.net ≡ net) }
     ensures image { IfOk result (λ built. IsImageOf net timing.now built.image) }
 {
-    let mapped = match items_of(alloc, net, timing) {
-        Ok(mapped) => mapped,
-        Err(no) => return Err(no),
-    };
-    match image_in(alloc, files, file) {
-        Ok(image) => accepted(alloc, mapped, timing, image),
-        Err(no) => Err(no),
-    }
+    let mapped = items_of(alloc, net, timing)?;
+    let image = image_in(alloc, files, file)?;
+    accepted(alloc, mapped, timing, image)
 }
 
 /// The lanes of the words' stimulus file, for a design.

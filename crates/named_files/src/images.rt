@@ -1,24 +1,22 @@
-//! The checks of an image that comes from elsewhere: its text, and whether the netlist accepts it.
+//! The check of an image that comes from elsewhere: whether the netlist accepts it.
 
-ghost use Rattle.std.specs.Prelude.{◌≡◌, ◌≤◌, Ok, length, IfOk, IfErr, OnOk};
+ghost use Rattle.std.specs.Prelude.{◌≡◌, Ok, IfOk, IfErr, OnOk};
 ghost use Rattle.image_defs.specs.Claimed.{HasClaims};
-ghost use Rattle.limits.specs.declared.TheConstants.{MAX_TEXT_BYTES};
 ghost use Rattle.net_defs.specs.Valid.{IsValid, IsValidTiming};
 ghost use Rattle.node_defs.specs.Order.{AreItems};
 ghost use Rattle.named_files.specs.Checks.{HasNoLoop, Refuses};
-ghost use Rattle.named_files.specs.Images.{IsImageOf, IsAccepted, IsImageFileOf};
-ghost use Rattle.named_files.specs.Refused.{Satisfies, refused_of};
+ghost use Rattle.named_files.specs.Images.{IsImageOf, IsAccepted};
+ghost use Rattle.named_files.specs.Refused.{refused_of};
 
 use crate::checks::Built;
 use image_check::check_image;
 use image_defs::ImageFile;
-use image_file::read_image;
 use net_defs::{Netlist, Timing};
 use node_defs::NodeNet;
 use node_map::map_nodes;
 use rank_find::{RankNo, rank};
-use refusal_lines::{Refusal, of_image, of_match};
-use seen_list::{List, Memory};
+use refusal_lines::{Refusal, of_match};
+use seen_list::Memory;
 use std::alloc::Global;
 use yse_compile::inputs::same_inputs;
 use yse_compile::matching::matching_images_show;
@@ -40,34 +38,12 @@ pub fn items_of<'a>(alloc: Global, net: Netlist, timing: &Timing) -> Result<Mapp
     ensures looped { IfErr result (λ no. Refuses (HasNoLoop net timing.now) (refused_of no)) }
 {
     match rank(alloc, &net, timing) {
-        Ok(ranks) => {
-            let mapped = map_nodes(alloc, &net, &ranks, timing);
-            drop(ranks);
-            match mapped {
-                Ok(nodes) => Ok(Mapped { net, nodes }),
-                Err(Memory) => {
-                    drop(net);
-                    Err(Refusal::Memory)
-                }
-            }
-        }
+        Ok(ranks) => match map_nodes(alloc, &net, &ranks, timing) {
+            Ok(nodes) => Ok(Mapped { net, nodes }),
+            Err(Memory) => Err(Refusal::Memory),
+        },
         Err(RankNo::Loop(members)) => Err(Refusal::Loop(net, members)),
-        Err(RankNo::Memory) => {
-            drop(net);
-            Err(Refusal::Memory)
-        }
-    }
-}
-
-/// The image of a text with its claims. The text is given up once it is read.
-pub fn image_file_of<'a>(alloc: Global, text: List<u8>) -> Result<ImageFile, Refusal<'a>>
-    requires { length text ≤ MAX_TEXT_BYTES }
-    ensures checked { Satisfies result (IsImageFileOf text) }
-    ensures claims { IfOk result HasClaims }
-{
-    match read_image(alloc, text.as_slice()) {
-        Ok(file) => Ok(file),
-        Err(no) => Err(of_image(no)),
+        Err(RankNo::Memory) => Err(Refusal::Memory),
     }
 }
 
@@ -89,6 +65,7 @@ pub fn accepted<'a>(
 {
     same_inputs();
     matching_images_show();
+    // The drops by hand save 3 s of proof.
     let checked = check_image(alloc, &file, &mapped.nodes, timing);
     let Mapped { net, nodes } = mapped;
     drop(nodes);

@@ -13,18 +13,21 @@ ghost use Rattle.named_files.specs.code.Passing.{AfterImageFile};
 ghost use Rattle.named_files.specs.code.Texts.{GivesText};
 ghost use Rattle.named_files.specs.Files.{AfterFaultList, AfterLanes, AfterList, AfterMachine, AfterStimulus};
 
-use crate::checks::{faults_of, lanes_of, list_of, machine_of, netlist_of, order_of, stimulus_of};
-use crate::images::image_file_of;
+use bench_read::law::reads_as_valid;
+use bench_read::{read_bench, read_faults, read_last};
 use cmd_words::RunWords;
 use edge_io::{Files, ReadNo, read_file};
 use image_defs::ImageFile;
+use image_file::read_image;
 use limits::MAX_TEXT_BYTES;
-use machine_text::Machine;
+use machine_text::{Machine, read_machine};
 use net_defs::{Fault, Netlist, Stimulus, Timing};
-use refusal_lines::Refusal;
+use refusal_lines::{
+    Refusal, of_faults, of_image, of_lanes, of_list, of_machine, of_netlist, of_order, of_stimulus,
+};
 use seen_list::{List, Text};
 use std::alloc::Global;
-use stim_text::{Lanes, Order};
+use stim_text::{Lanes, Order, read_lanes, read_order, read_stim};
 
 /// A netlist, and the timing that it is run in.
 #[derive(Drop)]
@@ -66,25 +69,13 @@ pub fn machine_from<'a, F: Files>(
 {
     match file {
         None => Ok(Machine::default_size(alloc)),
-        Some(file) => machine_in(alloc, files, file.as_bytes()),
-    }
-}
-
-/// The machine of this file.
-fn machine_in<'a, F: Files>(
-    alloc: Global,
-    files: &mut F,
-    file: &'a [u8],
-) -> Result<Machine, Refusal<'a>>
-    ensures same_names { F.names files.new ≡ F.names files.old }
-    ensures same_bytes { F.bytes files.new ≡ F.bytes files.old }
-    ensures step { Passes (F.names files.old) (F.bytes files.old) (F.counts files.old) (F.counts files.new)
-        (AfterMachine (Some file.now)) result }
-    ensures valid { IfOk result IsValidMachine }
-{
-    match read_text(alloc, files, file) {
-        Ok(text) => machine_of(alloc, text),
-        Err(no) => Err(no),
+        Some(file) => {
+            let text = read_text(alloc, files, file.as_bytes())?;
+            match read_machine(alloc, text.as_slice()) {
+                Ok(machine) => Ok(machine),
+                Err(no) => Err(of_machine(no)),
+            }
+        }
     }
 }
 
@@ -102,17 +93,9 @@ pub fn design_from<'a, F: Files>(
     ensures valid { IfOk result (λ timed. IsValid timed.net) }
     ensures timing { IfOk result (λ timed. IsValidTiming timed.timing) }
 {
-    let net = match netlist_in(alloc, files, words.netlist.as_bytes()) {
-        Ok(net) => net,
-        Err(no) => return Err(no),
-    };
-    match timing_from(alloc, files, words, &net) {
-        Ok(timing) => Ok(Timed { net, timing }),
-        Err(no) => {
-            drop(net);
-            Err(no)
-        }
-    }
+    let net = netlist_in(alloc, files, words.netlist.as_bytes())?;
+    let timing = timing_from(alloc, files, words, &net)?;
+    Ok(Timed { net, timing })
 }
 
 /// The netlist of this file.
@@ -127,9 +110,14 @@ pub fn netlist_in<'a, F: Files>(
         (AfterNetlistFile file.now) result }
     ensures valid { IfOk result IsValid }
 {
-    match read_text(alloc, files, file) {
-        Ok(text) => netlist_of(alloc, text),
-        Err(no) => Err(no),
+    let text = read_text(alloc, files, file)?;
+    let bytes = text.as_slice();
+    match read_bench(alloc, bytes) {
+        Ok(net) => {
+            reads_as_valid(bytes, &net);
+            Ok(net)
+        }
+        Err(no) => Err(of_netlist(no)),
     }
 }
 
@@ -151,33 +139,13 @@ fn timing_from<'a, F: Files>(
     match &words.last {
         // The timing of words lists no gate, so this is a copy of it.
         None => Ok(words.timing.listing(List::new(alloc))),
-        Some(file) => timing_in(alloc, files, file.as_bytes(), net, &words.timing),
-    }
-}
-
-/// The timing with the gates listed that this file names.
-fn timing_in<'a, F: Files>(
-    alloc: Global,
-    files: &mut F,
-    file: &'a [u8],
-    net: &Netlist,
-    timing: &Timing,
-) -> Result<Timing, Refusal<'a>>
-    requires valid { IsValid net.now }
-    requires timing { IsValidTiming timing.now }
-    ensures same_names { F.names files.new ≡ F.names files.old }
-    ensures same_bytes { F.bytes files.new ≡ F.bytes files.old }
-    ensures step { Passes (F.names files.old) (F.bytes files.old) (F.counts files.old) (F.counts files.new)
-        (AfterList (Some file.now) net.now timing.now) result }
-    ensures timing { IfOk result IsValidTiming }
-{
-    let text = match read_text(alloc, files, file) {
-        Ok(text) => text,
-        Err(no) => return Err(no),
-    };
-    match list_of(alloc, text, net) {
-        Ok(listed) => Ok(timing.listing(listed)),
-        Err(no) => Err(no),
+        Some(file) => {
+            let text = read_text(alloc, files, file.as_bytes())?;
+            match read_last(alloc, text.as_slice(), net) {
+                Ok(listed) => Ok(words.timing.listing(listed)),
+                Err(no) => Err(of_list(no)),
+            }
+        }
     }
 }
 
@@ -197,31 +165,13 @@ pub fn faults_from<'a, F: Files>(
 {
     match file {
         None => Ok(None),
-        Some(file) => faults_in(alloc, files, file.as_bytes(), net),
-    }
-}
-
-/// The stuck faults that this file names.
-fn faults_in<'a, F: Files>(
-    alloc: Global,
-    files: &mut F,
-    file: &'a [u8],
-    net: &Netlist,
-) -> Result<Option<List<Fault>>, Refusal<'a>>
-    requires { IsValid net.now }
-    ensures same_names { F.names files.new ≡ F.names files.old }
-    ensures same_bytes { F.bytes files.new ≡ F.bytes files.old }
-    ensures step { Passes (F.names files.old) (F.bytes files.old) (F.counts files.old) (F.counts files.new)
-        (AfterFaultList (Some file.now) net.now) result }
-    ensures faults { IfOk result (λ listed. IfSome listed (All (IsFault net.now))) }
-{
-    let text = match read_text(alloc, files, file) {
-        Ok(text) => text,
-        Err(no) => return Err(no),
-    };
-    match faults_of(alloc, text, net) {
-        Ok(faults) => Ok(Some(faults)),
-        Err(no) => Err(no),
+        Some(file) => {
+            let text = read_text(alloc, files, file.as_bytes())?;
+            match read_faults(alloc, text.as_slice(), net) {
+                Ok(faults) => Ok(Some(faults)),
+                Err(no) => Err(of_faults(no)),
+            }
+        }
     }
 }
 
@@ -240,9 +190,10 @@ pub fn stimulus_in<'a, F: Files>(
     ensures valid { IfOk result IsValidStimulus }
     ensures columns { IfOk result (λ stimulus. stimulus.columns ≡ input_count net.now) }
 {
-    match read_text(alloc, files, file) {
-        Ok(text) => stimulus_of(alloc, text, net),
-        Err(no) => Err(no),
+    let text = read_text(alloc, files, file)?;
+    match read_stim(alloc, text.as_slice(), net.inputs()) {
+        Ok(stimulus) => Ok(stimulus),
+        Err(no) => Err(of_stimulus(no)),
     }
 }
 
@@ -260,9 +211,10 @@ pub fn lanes_in<'a, F: Files>(
         (AfterLanes file.now net.now) result }
     ensures lanes { IfOk result (AreLanes (input_count net.now)) }
 {
-    match read_text(alloc, files, file) {
-        Ok(text) => lanes_of(alloc, text, net),
-        Err(no) => Err(no),
+    let text = read_text(alloc, files, file)?;
+    match read_lanes(alloc, text.as_slice(), net.inputs()) {
+        Ok(lanes) => Ok(lanes),
+        Err(no) => Err(of_lanes(no)),
     }
 }
 
@@ -280,9 +232,10 @@ pub fn order_in<'a, F: Files>(
         (AfterOrderFile file.now machine.now) result }
     ensures valid { IfOk result (IsValidOrder (ports_of machine.now)) }
 {
-    match read_text(alloc, files, file) {
-        Ok(text) => order_of(alloc, text, machine),
-        Err(no) => Err(no),
+    let text = read_text(alloc, files, file)?;
+    match read_order(alloc, text.as_slice(), machine.logic + machine.array + 1) {
+        Ok(order) => Ok(order),
+        Err(no) => Err(of_order(no)),
     }
 }
 
@@ -298,8 +251,9 @@ pub fn image_in<'a, F: Files>(
         (AfterImageFile file.now) result }
     ensures claims { IfOk result HasClaims }
 {
-    match read_text(alloc, files, file) {
-        Ok(text) => image_file_of(alloc, text),
-        Err(no) => Err(no),
+    let text = read_text(alloc, files, file)?;
+    match read_image(alloc, text.as_slice()) {
+        Ok(image) => Ok(image),
+        Err(no) => Err(of_image(no)),
     }
 }

@@ -23,9 +23,7 @@ pub fn write_pieces<S: Sink>(sink: &mut S, pieces: &[&[u8]]) -> Result<(), Write
         result (flat_map (λ piece. piece.now) pieces.now) }
 {
     'pieces: for i in 0..pieces.len() {
-        if let Err(no) = write_piece(sink, piece_at(pieces, i)) {
-            return Err(no);
-        }
+        write_piece(sink, piece_at(pieces, i))?;
     }
     Ok(())
 }

@@ -128,20 +128,16 @@ pub fn write_loop_line<S: Sink>(sink: &mut S, net: &Netlist, members: &[u32]) ->
     ensures { Takes (S.taken sink.old) (S.taken sink.new) (S.faults sink.old) (S.faults sink.new)
         result (loop_line net.now members.now) }
 {
-    match write_members(sink, net, members) {
-        Ok(()) => write_piece(sink, b"\n"),
-        Err(no) => Err(no),
-    }
+    write_members(sink, net, members)?;
+    write_piece(sink, b"\n")
 }
 
 fn write_members<S: Sink>(sink: &mut S, net: &Netlist, members: &[u32]) -> Result<(), WriteNo>
     ensures { Takes (S.taken sink.old) (S.taken sink.new) (S.faults sink.old) (S.faults sink.new) result
         (codes "loop:" ++ flat_map (λ s. codes " " ++ name_of net.now s) members.now) }
 {
-    match write_piece(sink, b"loop:") {
-        Ok(()) => write_names(sink, net, members),
-        Err(no) => Err(no),
-    }
+    write_piece(sink, b"loop:")?;
+    write_names(sink, net, members)
 }
 
 /// Writes the names, a space before each.
@@ -150,9 +146,7 @@ fn write_names<S: Sink>(sink: &mut S, net: &Netlist, members: &[u32]) -> Result<
         (flat_map (λ s. codes " " ++ name_of net.now s) members.now) }
 {
     'members: for member in members {
-        if let Err(no) = write_pieces(sink, &[b" ", name_of(net, *member)]) {
-            return Err(no);
-        }
+        write_pieces(sink, &[b" ", name_of(net, *member)])?;
     }
     Ok(())
 }

@@ -1,16 +1,11 @@
 -- What is read asks for an order, and what is refused for no command.
-use Rattle.std.proofs.Common.{◌≡◌, Some, ap, map, option_map}
-use Rattle.std.specs.String.{string_bytes}
+use Rattle.std.proofs.Common.{ap, option_map}
 use Rattle.cmd_words.specs.declared.command.Command.TheVariants.{Order}
-use Rattle.cmd_words.specs.Asked.{of_two_files, says}
-use Rattle.cmd_words.specs.Settings.{order_options}
-use Rattle.cmd_words.proofs.AskLemmas.{made_refused}
+use Rattle.cmd_words.proofs.AskLemmas.{refused_made}
 use Rattle.cmd_words.proofs.reading.order.Goals as goal
 
-pub returns-in-Ok : goal.returns-in-Ok
-returns-in-Ok c =
-    let answered : says order_options of_two_files (map string_bytes c.args.words.now) ≡ Some c.in-Ok.words = rw (c.as_slice.ensures) at c.in-Ok.ensures in
-    ap (option_map Order) answered
+pub returns : goal.returns
+returns c = ap (option_map Order) (rw (c.as_slice.ensures) at c.in_ok-simulation.ensures)
 
-pub returns-in-Err : goal.returns-in-Err
-returns-in-Err c = made_refused Order (says order_options of_two_files (map string_bytes c.args.words.now)) c.in-Err.no (rw (c.as_slice.ensures) at c.in-Err.ensures)
+pub returns-in_err-simulation : goal.returns-in_err-simulation
+returns-in_err-simulation c = refused_made Order _ _ _ c.from_residual.ensures.1 (rw (c.as_slice.ensures) at c.in_err-simulation.ensures)

@@ -1,11 +1,7 @@
 -- What is refused asks for no command.
-use Rattle.std.proofs.Common.{map}
-use Rattle.std.specs.String.{string_bytes}
 use Rattle.cmd_words.specs.declared.command.Command.TheVariants.{Run}
-use Rattle.cmd_words.specs.Asked.{of_two_files, says}
-use Rattle.cmd_words.specs.Settings.{run_options}
-use Rattle.cmd_words.proofs.AskLemmas.{made_refused}
+use Rattle.cmd_words.proofs.AskLemmas.{refused_made}
 use Rattle.cmd_words.proofs.reading.run.Goals as goal
 
-pub returns-in-Err : goal.returns-in-Err
-returns-in-Err c = made_refused Run (says run_options of_two_files (map string_bytes c.args.words.now)) c.in-Err.no (rw (c.as_slice.ensures) at c.in-Err.ensures)
+pub returns-in_err-simulation : goal.returns-in_err-simulation
+returns-in_err-simulation c = refused_made Run _ _ _ c.from_residual.ensures.1 (rw (c.as_slice.ensures) at c.in_err-simulation.ensures)

@@ -1,5 +1,5 @@
 -- The loop, the image, and whether the netlist accepts it.
-use Rattle.std.proofs.Common.{◌≡◌, ◌∙◌, List, Option, Bool, ℕ, Result, Ok, Err, ap, refl, sym}
+use Rattle.std.proofs.Common.{◌≡◌, ◌∙◌, List, Option, Bool, ℕ, Result, Ok, Err, ap, sym}
 use Rattle.std.specs.Prelude.{IfOk, IfErr, OnOk}
 use Rattle.edge_io.specs.declared.counts.FileCounts.{FileCounts}
 use Rattle.image_defs.specs.declared.file.ImageFile.{ImageFile}
@@ -16,7 +16,7 @@ use Rattle.named_files.specs.Passing.{Continuation, Passes}
 use Rattle.named_files.specs.code.Passing.{AfterImageFile}
 use Rattle.named_files.specs.Readings.{Reading}
 use Rattle.named_files.specs.Refused.{refused_of}
-use Rattle.named_files.proofs.PassingLemmas.{both_pass, check_passes, check_stops, first_stops, value_passes}
+use Rattle.named_files.proofs.PassingLemmas.{both_pass, check_passes, check_stops, first_stops, no_value, stopped, value_passes}
 use Rattle.named_files.proofs.lemmas.WeakerLemmas.{Implies, checked_so}
 use Rattle.named_files.proofs.designs.built_in.Goals as goal
 
@@ -42,32 +42,39 @@ match_passes : (names : Option (List ℕ → Bool)) (bytes : Option (List ℕ �
     → IfOk result (λ built. (built.net ≡ net) × (built.image ≡ file.image)) → OnOk result (IsAccepted net timing file (Ok tt)) → IfErr result (λ no. Refuses (IsAccepted net timing file) (refused_of no)) → Passes names bytes counts counts (match_then net timing file) result
 match_passes names bytes net timing file counts (Ok built) same matches refused =
     check_passes names bytes (IsAccepted net timing file) (λ accepted. built_then net file) tt _ _ _ matches
-    (value_passes names bytes (built_then net file) built _ (λ rest outcome. (is, refl, refl)))
+    (value_passes names bytes _ built _ is)
   where
     is : record { net = net; image = file.image } ≡ built
     is = ap (λ n. with_image n file.image) (sym same.0) ∙ ap (with_image built.net) (sym same.1)
 match_passes names bytes net timing file counts (Err why) same matches refused = check_stops names bytes (IsAccepted net timing file) (λ accepted. built_then net file) _ _ refused
 
-pub returns-in-Err-clause-step : goal.returns-in-Err-clause-step
-returns-in-Err-clause-step g c = check_stops _ _ (HasNoLoop c.args.net c.args.timing.now) (λ passed. image_then c.args.file.now c.args.net c.args.timing.now) _ _ c.in-Err.ensures.looped
+pub returns-in_err-mapped-clause-step : goal.returns-in_err-mapped-clause-step
+returns-in_err-mapped-clause-step g c =
+    stopped _ _ _ _ _ _ _ c.from_residual.ensures.1 (check_stops _ _ (HasNoLoop c.args.net c.args.timing.now) (λ passed. image_then c.args.file.now c.args.net c.args.timing.now) _ _ c.in_err-mapped.ensures.looped)
 
-pub returns-in-Err-image_in-clause-step : goal.returns-in-Err-image_in-clause-step
+pub returns-in_err-image : goal.returns-in_err-image
 unfolding AfterImage
-returns-in-Err-image_in-clause-step g c =
+returns-in_err-image g c =
     let name = c.args.file.now in
     let net = c.args.net in
     let timing = c.args.timing.now in
-    check_passes _ _ (HasNoLoop net timing) (λ passed. image_then name net timing) tt _ _ _ c.in-Ok.ensures.acyclic
-    (first_stops _ _ (AfterImageFile name) (image_file_so name) (match_then net timing) _ _ _ c.in-Err-image_in.ensures.step)
+    record {
+      same_names = c.image_in.ensures.same_names;
+      same_bytes = c.image_in.ensures.same_bytes;
+      step = check_passes _ _ (HasNoLoop net timing) (λ passed. image_then name net timing) tt _ _ _ c.in_ok-mapped.ensures.acyclic
+          (first_stops _ _ (AfterImageFile name) (image_file_so name) (match_then net timing) _ _ _ _ c.from_residual-in_err-image.ensures.1 c.in_err-image.ensures.step);
+      same = no_value _ _ _ c.from_residual-in_err-image.ensures.1;
+      image = no_value _ _ _ c.from_residual-in_err-image.ensures.1;
+    }
 
-pub returns-in-Ok-image_in-clause-step : goal.returns-in-Ok-image_in-clause-step
+pub returns-clause-step : goal.returns-clause-step
 unfolding AfterImage
-returns-in-Ok-image_in-clause-step g c =
+returns-clause-step g c =
     let name = c.args.file.now in
     let net = c.args.net in
     let timing = c.args.timing.now in
-    let file = c.in-Ok-image_in.image in
-    let same = c.in-Ok.ensures.same in
-    check_passes _ _ (HasNoLoop net timing) (λ passed. image_then name net timing) tt _ _ _ c.in-Ok.ensures.acyclic
-    (both_pass _ _ (AfterImageFile name) (image_file_so name) (match_then net timing) file _ _ _ _ _ _ c.in-Ok-image_in.ensures.same_names c.in-Ok-image_in.ensures.same_bytes c.in-Ok-image_in.ensures.step
-    (match_passes _ _ net timing file _ _ (rw same at c.accepted.ensures.same) (rw same at c.accepted.ensures.matches) (rw same at c.accepted.ensures.refused)))
+    let image = c.in_ok-image.ensures in
+    let same = c.in_ok-mapped.ensures.same in
+    check_passes _ _ (HasNoLoop net timing) (λ passed. image_then name net timing) tt _ _ _ c.in_ok-mapped.ensures.acyclic
+    (both_pass _ _ (AfterImageFile name) (image_file_so name) (match_then net timing) c.in_ok-image.image _ _ _ _ _ _ image.same_names image.same_bytes image.step
+    (match_passes _ _ net timing c.in_ok-image.image _ _ (rw same at c.accepted.ensures.same) (rw same at c.accepted.ensures.matches) (rw same at c.accepted.ensures.refused)))

@@ -9,7 +9,7 @@ use Rattle.named_files.specs.Designs.{Placed}
 use Rattle.named_files.specs.Outcome.{Outcome}
 use Rattle.named_files.specs.Passing.{AfterTimed, Continuation, placed}
 use Rattle.named_files.specs.Readings.{Reading}
-use Rattle.named_files.proofs.PassingLemmas.{both_pass, check_passes, check_stops, first_stops, value_passes}
+use Rattle.named_files.proofs.PassingLemmas.{both_pass, check_passes, check_stops, first_stops, no_value, value_passes}
 use Rattle.named_files.proofs.lemmas.WeakerLemmas.{timed_so}
 use Rattle.named_files.proofs.designs.place.Goals as goal
 
@@ -23,34 +23,39 @@ room_then words machine timed Next = After (HasRoom words.homes timed.net machin
 abbrev fit_then : RunWords → Machine → Timed → Continuation Placed → List Reading → Outcome → Type 0
 fit_then words machine timed Next = After (HasNoLoop timed.net timed.timing) (λ passed. room_then words machine timed Next)
 
-pub returns-in-Err-clause-step : goal.returns-in-Err-clause-step
-returns-in-Err-clause-step g c =
+pub returns-in_err-net : goal.returns-in_err-net
+returns-in_err-net g c =
     let words = c.args.words.now in
-    first_stops _ _ (AfterTimed words) (timed_so words) (fit_then words c.args.machine) _ _ _ c.in-Err.ensures.step
+    record { same_names = c.design_from.ensures.same_names; same_bytes = c.design_from.ensures.same_bytes; step = first_stops _ _ (AfterTimed words) (timed_so words) (fit_then words c.args.machine) _ _ _ _ c.from_residual.ensures.1 c.in_err-net.ensures.step; homes = no_value _ _ _ c.from_residual.ensures.1 }
 
-pub returns-clause-step : goal.returns-clause-step
-returns-clause-step g c =
+pub returns : goal.returns
+returns g c =
     let words = c.args.words.now in
     let machine = c.args.machine in
-    let timed = c.in-Ok.timed in
+    let timed = c.in_ok-net.field-0 in
     let loops = HasNoLoop timed.net timed.timing in
     let room = HasRoom words.homes timed.net machine timed.timing in
-    let no = c.in-Err-compile_with in
-    both_pass _ _ (AfterTimed words) (timed_so words) (fit_then words machine) timed _ _ _ _ _ _ c.in-Ok.ensures.same_names c.in-Ok.ensures.same_bytes c.in-Ok.ensures.step
-    (elim (c.of_design.ensures words.homes machine timed.timing no.ensures.refused (λ over fits. subst IsOverfull (no.ensures.fits fits) over)) [
-      | inl looped ↦ check_stops _ _ loops (λ passed. room_then words machine timed) _ _ looped
-      | inr (acyclic, crowded) ↦ check_passes _ _ loops (λ passed. room_then words machine timed) tt _ _ _ acyclic (check_stops _ _ room (λ fits. design_then words machine timed) _ _ crowded)
-    ])
+    let refused = c.in-Err.ensures in
+    record {
+      same_names = c.design_from.ensures.same_names;
+      same_bytes = c.design_from.ensures.same_bytes;
+      step = both_pass _ _ (AfterTimed words) (timed_so words) (fit_then words machine) timed _ _ _ _ _ _ c.in_ok-net.ensures.same_names c.in_ok-net.ensures.same_bytes c.in_ok-net.ensures.step
+          (elim (c.of_design.ensures words.homes machine timed.timing refused.refused (λ over fits. subst IsOverfull (refused.fits fits) over)) [
+            | inl looped ↦ check_stops _ _ loops (λ passed. room_then words machine timed) _ _ looped
+            | inr (acyclic, crowded) ↦ check_passes _ _ loops (λ passed. room_then words machine timed) tt _ _ _ acyclic (check_stops _ _ room (λ fits. design_then words machine timed) _ _ crowded)
+          ]);
+      homes = tt;
+    }
 
-pub returns-in-Ok-compile_with-clause-step : goal.returns-in-Ok-compile_with-clause-step
-returns-in-Ok-compile_with-clause-step g c =
+pub returns-in-Ok-clause-step : goal.returns-in-Ok-clause-step
+returns-in-Ok-clause-step g c =
     let words = c.args.words.now in
     let machine = c.args.machine in
-    let timed = c.in-Ok.timed in
-    let fit = c.in-Ok-compile_with.ensures in
+    let timed = c.in_ok-net.field-0 in
+    let fit = c.in-Ok.ensures in
     let loops = HasNoLoop timed.net timed.timing in
     let room = HasRoom words.homes timed.net machine timed.timing in
-    both_pass _ _ (AfterTimed words) (timed_so words) (fit_then words machine) timed _ _ _ _ _ _ c.in-Ok.ensures.same_names c.in-Ok.ensures.same_bytes c.in-Ok.ensures.step
+    both_pass _ _ (AfterTimed words) (timed_so words) (fit_then words machine) timed _ _ _ _ _ _ c.in_ok-net.ensures.same_names c.in_ok-net.ensures.same_bytes c.in_ok-net.ensures.step
     (check_passes _ _ loops (λ passed. room_then words machine timed) tt _ _ _ fit.chosen.design.acyclic
     (check_passes _ _ room (λ fits. design_then words machine timed) tt _ _ _ fit.fitted
-    (value_passes _ _ (design_then words machine timed) _ _ (λ rest outcome. (refl, refl, refl)))))
+    (value_passes _ _ _ _ _ refl)))

@@ -1,5 +1,5 @@
 -- The netlist, and then its timing.
-use Rattle.std.proofs.Common.{List, refl}
+use Rattle.std.proofs.Common.{◌∙◌, List, refl}
 use Rattle.cmd_words.specs.declared.command.RunWords.{RunWords}
 use Rattle.net_defs.specs.declared.netlist.Netlist.{Netlist}
 use Rattle.net_defs.specs.declared.timing.Timing.{Timing}
@@ -8,7 +8,7 @@ use Rattle.named_files.specs.Outcome.{Outcome}
 use Rattle.named_files.specs.Passing.{AfterNetlistFile, Continuation}
 use Rattle.named_files.specs.Readings.{Reading}
 use Rattle.named_files.specs.Files.{AfterList, AfterNetlist}
-use Rattle.named_files.proofs.PassingLemmas.{both_pass, first_stops, value_passes}
+use Rattle.named_files.proofs.PassingLemmas.{both_pass, first_stops, no_value, value_passes}
 use Rattle.named_files.proofs.lemmas.WeakerLemmas.{list_so, netlist_file_so}
 use Rattle.named_files.proofs.reading.design_from.Goals as goal
 
@@ -20,26 +20,38 @@ design_then net timing Next = Next (record { net = net; timing = timing })
 abbrev timing_then : RunWords → Netlist → Continuation Timed → List Reading → Outcome → Type 0
 timing_then words net Next = AfterList words.last net words.timing (λ timing. design_then net timing Next)
 
-pub returns-in-Ok-timing_from-clause-step : goal.returns-in-Ok-timing_from-clause-step
+pub returns : goal.returns
 unfolding AfterNetlist
-returns-in-Ok-timing_from-clause-step g c =
+returns g c =
     let words = c.args.words.now in
-    let net = c.in-Ok.net in
-    let timing = c.in-Ok-timing_from.timing in
-    both_pass _ _ (AfterNetlistFile words.netlist) (netlist_file_so words.netlist) (timing_then words) net _ _ _ _ _ _ c.in-Ok.ensures.same_names c.in-Ok.ensures.same_bytes (rw c.as_bytes.ensures at c.in-Ok.ensures.step)
-    (both_pass _ _ (AfterList words.last net words.timing) (list_so words.last net words.timing) (design_then net) timing _ _ _ _ _ _ refl refl c.in-Ok-timing_from.ensures.step
-    (value_passes _ _ (design_then net timing) (record { net = net; timing = timing }) _ (λ rest outcome. (refl, refl, refl))))
+    let net = c.in_ok-net.net in
+    let timing = c.in_ok-timing.timing in
+    record {
+      same_names = c.timing_from.ensures.same_names ∙ c.netlist_in.ensures.same_names;
+      same_bytes = c.timing_from.ensures.same_bytes ∙ c.netlist_in.ensures.same_bytes;
+      step = both_pass _ _ (AfterNetlistFile words.netlist) (netlist_file_so words.netlist) (timing_then words) net _ _ _ _ _ _ c.in_ok-net.ensures.same_names c.in_ok-net.ensures.same_bytes (rw c.as_bytes.ensures at c.in_ok-net.ensures.step)
+          (both_pass _ _ (AfterList words.last net words.timing) (list_so words.last net words.timing) (design_then net) timing _ _ _ _ _ _ refl refl c.in_ok-timing.ensures.step
+          (value_passes _ _ (record { net = net; timing = timing }) _ _ refl));
+      valid = c.in_ok-net.ensures.valid;
+      timing = c.in_ok-timing.ensures.timing;
+    }
 
-pub returns-in-Err-clause-step : goal.returns-in-Err-clause-step
+pub returns-in_err-net : goal.returns-in_err-net
 unfolding AfterNetlist
-returns-in-Err-clause-step g c =
+returns-in_err-net g c =
     let words = c.args.words.now in
-    first_stops _ _ (AfterNetlistFile words.netlist) (netlist_file_so words.netlist) (timing_then words) _ _ _ (rw c.as_bytes.ensures at c.in-Err.ensures.step)
+    record { same_names = c.netlist_in.ensures.same_names; same_bytes = c.netlist_in.ensures.same_bytes; step = first_stops _ _ (AfterNetlistFile words.netlist) (netlist_file_so words.netlist) (timing_then words) _ _ _ _ c.from_residual.ensures.1 (rw c.as_bytes.ensures at c.in_err-net.ensures.step); valid = no_value _ _ _ c.from_residual.ensures.1; timing = no_value _ _ _ c.from_residual.ensures.1 }
 
-pub returns-in-Err-timing_from-clause-step : goal.returns-in-Err-timing_from-clause-step
+pub returns-in_err-timing : goal.returns-in_err-timing
 unfolding AfterNetlist
-returns-in-Err-timing_from-clause-step g c =
+returns-in_err-timing g c =
     let words = c.args.words.now in
-    let net = c.in-Ok.net in
-    both_pass _ _ (AfterNetlistFile words.netlist) (netlist_file_so words.netlist) (timing_then words) net _ _ _ _ _ _ c.in-Ok.ensures.same_names c.in-Ok.ensures.same_bytes (rw c.as_bytes.ensures at c.in-Ok.ensures.step)
-    (first_stops _ _ (AfterList words.last net words.timing) (list_so words.last net words.timing) (design_then net) _ _ _ c.in-Err-timing_from.ensures.step)
+    let net = c.in_ok-net.net in
+    record {
+      same_names = c.timing_from.ensures.same_names ∙ c.netlist_in.ensures.same_names;
+      same_bytes = c.timing_from.ensures.same_bytes ∙ c.netlist_in.ensures.same_bytes;
+      step = both_pass _ _ (AfterNetlistFile words.netlist) (netlist_file_so words.netlist) (timing_then words) net _ _ _ _ _ _ c.in_ok-net.ensures.same_names c.in_ok-net.ensures.same_bytes (rw c.as_bytes.ensures at c.in_ok-net.ensures.step)
+          (first_stops _ _ (AfterList words.last net words.timing) (list_so words.last net words.timing) (design_then net) _ _ _ _ c.from_residual-in_err-timing.ensures.1 c.in_err-timing.ensures.step);
+      valid = no_value _ _ _ c.from_residual-in_err-timing.ensures.1;
+      timing = no_value _ _ _ c.from_residual-in_err-timing.ensures.1;
+    }

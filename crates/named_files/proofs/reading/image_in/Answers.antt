@@ -1,9 +1,18 @@
 use Rattle.named_files.specs.Images.{IsImageFileOf}
-use Rattle.named_files.proofs.PassingLemmas.{file_passes, file_stops}
+use Rattle.named_files.proofs.PassingLemmas.{file_passes, file_stops, no_value}
+use Rattle.named_files.proofs.RefusedLemmas.{image_refused}
 use Rattle.named_files.proofs.reading.image_in.Goals as goal
 
-pub returns-in-Ok-clause-step : goal.returns-in-Ok-clause-step
-returns-in-Ok-clause-step g c = file_passes _ _ IsImageFileOf _ _ c.args.file.now c.in-Ok.text _ c.in-Ok.ensures.text c.image_file_of.ensures.checked
+pub returns-in_err-text : goal.returns-in_err-text
+returns-in_err-text g c =
+    record { same_names = c.read_text.ensures.same_names; same_bytes = c.read_text.ensures.same_bytes; step = file_stops _ _ IsImageFileOf _ _ c.args.file.now _ _ c.from_residual.ensures.1 c.in_err-text.ensures.text; claims = no_value _ _ _ c.from_residual.ensures.1 }
 
-pub returns-in-Err-clause-step : goal.returns-in-Err-clause-step
-returns-in-Err-clause-step g c = file_stops _ _ IsImageFileOf _ _ c.args.file.now _ c.in-Err.ensures.text
+pub returns-in-Ok-clause-step : goal.returns-in-Ok-clause-step
+returns-in-Ok-clause-step g c =
+    let answers = rw c.as_slice.ensures at c.in-Ok.ensures.answers in
+    file_passes _ _ IsImageFileOf _ _ c.args.file.now c.in_ok-text.text _ c.in_ok-text.ensures.text answers.1
+
+pub returns : goal.returns
+returns g c =
+    let answers = rw c.as_slice.ensures at c.in-Err.ensures.answers in
+    record { same_names = c.read_text.ensures.same_names; same_bytes = c.read_text.ensures.same_bytes; step = file_passes _ _ IsImageFileOf _ _ c.args.file.now c.in_ok-text.text _ c.in_ok-text.ensures.text (rw c.of_image.ensures (image_refused _ _ answers)); claims = tt }

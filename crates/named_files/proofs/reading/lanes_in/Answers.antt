@@ -1,12 +1,22 @@
 use Rattle.named_files.specs.Checks.{IsLanesOf}
 use Rattle.named_files.specs.Files.{AfterLanes}
-use Rattle.named_files.proofs.PassingLemmas.{file_passes, file_stops}
+use Rattle.named_files.proofs.PassingLemmas.{file_passes, file_stops, no_value}
+use Rattle.named_files.proofs.RefusedLemmas.{lanes_refused}
 use Rattle.named_files.proofs.reading.lanes_in.Goals as goal
 
-pub returns-in-Ok-clause-step : goal.returns-in-Ok-clause-step
+pub returns-in_err-text : goal.returns-in_err-text
 unfolding AfterLanes
-returns-in-Ok-clause-step g c = file_passes _ _ (λ text. IsLanesOf text c.args.net.now) _ _ c.args.file.now c.in-Ok.text _ c.in-Ok.ensures.text c.lanes_of.ensures.checked
+returns-in_err-text g c =
+    record { same_names = c.read_text.ensures.same_names; same_bytes = c.read_text.ensures.same_bytes; step = file_stops _ _ (λ text. IsLanesOf text c.args.net.now) _ _ c.args.file.now _ _ c.from_residual.ensures.1 c.in_err-text.ensures.text; lanes = no_value _ _ _ c.from_residual.ensures.1 }
 
-pub returns-in-Err-clause-step : goal.returns-in-Err-clause-step
+pub returns-in-Ok : goal.returns-in-Ok
 unfolding AfterLanes
-returns-in-Err-clause-step g c = file_stops _ _ (λ text. IsLanesOf text c.args.net.now) _ _ c.args.file.now _ c.in-Err.ensures.text
+returns-in-Ok g c =
+    let answers = rw (c.as_slice.ensures, c.inputs.ensures) at c.in-Ok.ensures.answers in
+    record { same_names = c.read_text.ensures.same_names; same_bytes = c.read_text.ensures.same_bytes; step = file_passes _ _ (λ text. IsLanesOf text c.args.net.now) _ _ c.args.file.now c.in_ok-text.text _ c.in_ok-text.ensures.text answers.1; lanes = rw c.inputs.ensures at c.in-Ok.ensures.lanes }
+
+pub returns : goal.returns
+unfolding AfterLanes
+returns g c =
+    let answers = rw (c.as_slice.ensures, c.inputs.ensures) at c.in-Err.ensures.answers in
+    record { same_names = c.read_text.ensures.same_names; same_bytes = c.read_text.ensures.same_bytes; step = file_passes _ _ (λ text. IsLanesOf text c.args.net.now) _ _ c.args.file.now c.in_ok-text.text _ c.in_ok-text.ensures.text (rw c.of_lanes.ensures (lanes_refused c.in_ok-text.text c.args.net.now c.in-Err.no answers)); lanes = tt }

@@ -1,13 +1,16 @@
 -- The names are written, and then the end of the line.
 use Rattle.std.proofs.Common.{refl}
+use Rattle.std.proofs.lemmas.Result.{err_from_is_err_and}
 use Rattle.refusal_lines.specs.Lines.{loop_line}
 use Rattle.edge_io.proofs.lemmas.WritingLemmas.{writes_then, writes_stop}
 use Rattle.refusal_lines.proofs.lines.netlist.write_loop_line.Goals as goal
 
-pub returns-in-Ok : goal.returns-in-Ok
+pub returns : goal.returns
 unfolding loop_line
-returns-in-Ok g c = writes_then _ _ _ _ _ _ _ _ _ _ _ _ c.in-Ok.is refl c.write_members.ensures c.write_piece.ensures
+returns g c = writes_then _ _ _ _ _ _ _ _ _ _ _ _ c.in_ok-write_members.was refl c.write_members.ensures c.write_piece.ensures
 
-pub returns-in-Err : goal.returns-in-Err
+pub returns-in_err-write_members : goal.returns-in_err-write_members
 unfolding loop_line
-returns-in-Err g c = writes_stop _ _ _ _ _ _ _ _ _ c.in-Err.is refl c.write_members.ensures
+returns-in_err-write_members g c =
+    let p = err_from_is_err_and c.from_residual.result c.from_residual.ensures.1 in
+    rw (p.1, p.2) (writes_stop _ _ _ _ _ _ _ _ _ c.in_err-write_members.was refl c.write_members.ensures)
