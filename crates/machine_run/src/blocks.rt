@@ -118,10 +118,8 @@ fn write_run<R: Threads + Wait + Sync, G: Gate + Send, O: Sink>(
     ensures kept { AreInPlace gates.old gates.new }
 {
     line.header(net);
-    match write_line(out, line) {
-        Ok(()) => run_all(rt, cycles, crew, gates, line, out),
-        Err(no) => Err(no),
-    }
+    write_line(out, line)?;
+    run_all(rt, cycles, crew, gates, line, out)
 }
 
 /// Runs the image under the stimulus with so many workers, and writes the trace: the header with the netlist's

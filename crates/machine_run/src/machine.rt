@@ -56,10 +56,8 @@ pub fn run_machine<R: Threads + Wait + Sync, G: Gate + Send>(
     let cycles = stim.cycles();
     let mut rows = blank_rows(alloc, image, cycles)?;
     let room = rows.rows.as_mut_slice();
-    match run_rows(rt, alloc, image, stim, banks, workers, gates, room) {
-        Ok(()) => Ok(rows),
-        Err(no) => Err(no),
-    }
+    run_rows(rt, alloc, image, stim, banks, workers, gates, room)?;
+    Ok(rows)
 }
 
 /// Runs as `run_machine` does, into rows that have room for those of all cycles.

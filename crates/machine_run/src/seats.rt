@@ -48,15 +48,8 @@ impl<'a> Seats for CrewSeats<'a> {
         ensures fits { IfOk result (IsSeatOf (at_first self.now.image.now self.now.stim.now self.now.workers self.now.window)) }
         ensures port { IfOk result (λ seat. seat.run.pass.port ≡ pass.port) }
     {
-        match AnyPort::new(alloc, self.image, self.stim, pass.port(), self.window) {
-            Ok(port) => {
-                let run = Running::new(pass, port);
-                Ok(Seated { bar: self.bar, run })
-            }
-            Err(no) => {
-                drop(pass);
-                Err(no)
-            }
-        }
+        let port = AnyPort::new(alloc, self.image, self.stim, pass.port(), self.window)?;
+        let run = Running::new(pass, port);
+        Ok(Seated { bar: self.bar, run })
     }
 }

@@ -1,6 +1,5 @@
 mod CoreLemmas
 mod EndLemmas
-mod EventLemmas
 mod RoundLemmas
 mod RowLemmas
 mod SeatLemmas

@@ -31,13 +31,13 @@ module _ (old new : CoreView) (p : ℕ) (answer : CoreStep) (ready : IsReady old
   port_there : (port : PortImage) × IsPort old.image p port
   port_there = member_at old.image.ports p inside
 
-  pub sound_after : Applies old p answer new → IsSoundCore new
+  sound_after : Applies old p answer new → IsSoundCore new
   sound_after applies =
       subst IsSoundCore (sym applies.same)
       (subst (IsSound old.image old.stimulus old.banks (turns_of old)) (ap state_of applies.same)
       (step_sound old.image old.stimulus old.banks (turns_of old) ready.image ready.some (state_of old) ready.sound p port_there.0 port_there.1 answer (state_of new) (applies.step port_there.0 port_there.1)))
 
-  pub takes_right : Applies old p answer new → TakesThisTurn old p answer
+  takes_right : Applies old p answer new → TakesThisTurn old p answer
   takes_right applies = record {
     each = λ port slot is taken.
         let step : IsStep old.image old.stimulus old.banks (turns_of old) p port (state_of old) (Moved (event.Take slot)) (state_of new) =
@@ -50,10 +50,14 @@ module _ (old new : CoreView) (p : ℕ) (answer : CoreStep) (ready : IsReady old
         };
   }
 
-  pub puts_right : SparesReaders old p answer
+  puts_right : SparesReaders old p answer
   puts_right = record {
     each = λ port slot r is put next reads. put_spares old.image old.stimulus old.banks (turns_of old) ready.image ready.some (state_of old) ready.sound p port is slot next r reads;
   }
+
+  -- all of it
+  pub all_right : Applies old p answer new → TakesThisTurn old p answer × SparesReaders old p answer × IsSoundCore new
+  all_right applies = (takes_right applies, puts_right, sound_after applies)
 
 -- ---- the steps of a round
 

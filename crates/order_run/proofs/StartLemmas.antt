@@ -47,40 +47,47 @@ seat_fits image stimulus banks p seat first = record {
   sources = first.sources;
 }
 
-module _ (a : Inside) (fits : IsWellFormed a.image.now) (valid : IsValidStimulus a.stim.now) (some : 1 ≤ a.banks) (until : a.until ≡ turn_count (timing_of a.image.now) a.stim.now)
-    (seats : AreFirstSeats a.image.now a.stim.now a.banks (length a.image.now.ports) a.seats)
-    (finished : a.finished ≡ replicate (length a.image.now.ports) 0)
-    (words : a.words ≡ replicate (send_count a.image.now * a.banks) 0) where
+-- what a core has before its first event
+pub record Begins (a : Inside) : Type 0 where
+  pub fits : IsWellFormed a.image.now
+  pub valid : IsValidStimulus a.stim.now
+  pub some : 1 ≤ a.banks
+  pub until : a.until ≡ turn_count (timing_of a.image.now) a.stim.now
+  pub seats : AreFirstSeats a.image.now a.stim.now a.banks (length a.image.now.ports) a.seats
+  pub finished : a.finished ≡ replicate (length a.image.now.ports) 0
+  pub words : a.words ≡ replicate (send_count a.image.now * a.banks) 0
+
+module _ (a : Inside) (begins : Begins a) where
   starts_at : (q : ℕ) → slice_index_or (map place_in a.seats) q (start (length a.image.now.ports)) ≡ start (length a.image.now.ports)
   starts_at q = elim (slice_get_cases a.seats q).1 [
     | inl there ↦
         get_or_from_slice_get (map place_in a.seats) q (place_in there.0) (start (length a.image.now.ports)) (to_map place_in a.seats q there.0 there.2)
-        ∙ seat_starts a.image.now a.stim.now a.banks q there.0 (seats.each q there.0 there.2)
+        ∙ seat_starts a.image.now a.stim.now a.banks q there.0 (begins.seats.each q there.0 there.2)
     | inr past ↦ get_or_past (map place_in a.seats) q (start (length a.image.now.ports)) (let far = past.0 in let long = length-map a.seats place_in in omega arith)
   ]
 
   pub start_state : state_of (view_of a) ≡ first_state (length a.image.now.ports)
   start_state =
       let places : ◌≡◌ {A = ℕ → Place} (λ q. slice_index_or (map place_in a.seats) q (start (length a.image.now.ports))) (λ q. start (length a.image.now.ports)) = fun_ext (λ q. starts_at q) in
-      let none_finished : ◌≡◌ {A = ℕ → ℕ} (λ q. slice_index_or a.finished q 0) (λ q. 0) = fun_ext (λ q. ap (λ xs. slice_index_or xs q 0) finished ∙ replicate_read (length a.image.now.ports) q 0) in
-      let none_written : ◌≡◌ {A = ℕ → ℕ → ℕ → ℕ} (word_in a.image.now a.banks a.words) (λ p i b. 0) = ap (word_in a.image.now a.banks) words ∙ words_zero a.image.now a.banks (send_count a.image.now * a.banks) in
+      let none_finished : ◌≡◌ {A = ℕ → ℕ} (λ q. slice_index_or a.finished q 0) (λ q. 0) = fun_ext (λ q. ap (λ xs. slice_index_or xs q 0) begins.finished ∙ replicate_read (length a.image.now.ports) q 0) in
+      let none_written : ◌≡◌ {A = ℕ → ℕ → ℕ → ℕ} (word_in a.image.now a.banks a.words) (λ p i b. 0) = ap (word_in a.image.now a.banks) begins.words ∙ words_zero a.image.now a.banks (send_count a.image.now * a.banks) in
       ap {A = ℕ → Place} {B = CoreState} (λ f. record { place = f; finished = λ q. slice_index_or a.finished q 0; word = word_in a.image.now a.banks a.words }) places
       ∙ (ap {A = ℕ → ℕ} {B = CoreState} (λ f. record { place = λ q. start (length a.image.now.ports); finished = f; word = word_in a.image.now a.banks a.words }) none_finished
       ∙ ap {A = ℕ → ℕ → ℕ → ℕ} {B = CoreState} (λ w. record { place = λ q. start (length a.image.now.ports); finished = λ q. 0; word = w }) none_written)
 
   pub start_sound : IsSoundCore (view_of a)
-  start_sound = subst (IsSound a.image.now a.stim.now a.banks (turn_count (timing_of a.image.now) a.stim.now)) (sym start_state) (starts_sound a.image.now a.stim.now a.banks (turn_count (timing_of a.image.now) a.stim.now) fits some)
+  start_sound = subst (IsSound a.image.now a.stim.now a.banks (turn_count (timing_of a.image.now) a.stim.now)) (sym start_state) (starts_sound a.image.now a.stim.now a.banks (turn_count (timing_of a.image.now) a.stim.now) begins.fits begins.some)
 
   pub start_kept : IsKept a
   start_kept = record {
-    image = fits;
-    stimulus = valid;
-    some = some;
-    until = until;
-    seats = seats.long;
-    finished = ap length finished ∙ length-replicate (length a.image.now.ports) 0;
-    words = ap length words ∙ length-replicate (send_count a.image.now * a.banks) 0;
-    each = λ p seat at. seat_fits a.image.now a.stim.now a.banks p seat (seats.each p seat at);
+    image = begins.fits;
+    stimulus = begins.valid;
+    some = begins.some;
+    until = begins.until;
+    seats = begins.seats.long;
+    finished = ap length begins.finished ∙ length-replicate (length a.image.now.ports) 0;
+    words = ap length begins.words ∙ length-replicate (send_count a.image.now * a.banks) 0;
+    each = λ p seat at. seat_fits a.image.now a.stim.now a.banks p seat (begins.seats.each p seat at);
     sound = start_sound;
   }
 

@@ -1,12 +1,11 @@
 //! The lines of all lanes, written from the planes that the host has kept, by one row.
 
 ghost use Rattle.std.specs.Prelude.{IfOk, Some, length, slice_get, ◌+◌, ◌<◌, ◌≡◌, ◌≤◌};
-ghost use Rattle.machine_run.specs.Lines.{bytes_of_run, lines_between};
+ghost use Rattle.machine_run.specs.Lines.{lines_between};
 ghost use Rattle.edge_io.specs.Writing.{Takes};
 ghost use Rattle.image_defs.specs.declared.image.Image.{Image};
-ghost use Rattle.net_defs.specs.Time.{cycle_count};
 ghost use Rattle.port_host.specs.Rows.{printed_sources};
-ghost use Rattle.stim_text.specs.Lanes.{AreLanes, longest, own_stimulus};
+ghost use Rattle.stim_text.specs.Lanes.{AreLanes, longest};
 ghost use Rattle.pack_machine.specs.Lines.{bytes_of_lane, bytes_of_lanes};
 ghost use Rattle.pack_machine.specs.code.Ends.{IsHostAtEnd};
 ghost use Rattle.pack_machine.specs.code.Lines.{HasLineRoom, cells_in_lane};
@@ -73,38 +72,12 @@ fn write_rows<O: Sink>(
     'rows: for c in 0..cycles {
         fill_row(&mut room.row, host, lane, c + 1);
         room.line.row(c + 1, room.row.as_slice());
-        if let Err(no) = write_piece(out, room.line.bytes()) {
-            return Err(no);
-        }
+        write_piece(out, room.line.bytes())?;
     }
     Ok(())
 }
 
-/// Writes the header, and the lines of the cycles of a lane.
-fn write_trace<O: Sink>(
-    out: &mut O,
-    net: &Netlist,
-    room: &mut LaneLines,
-    host: &PackRunning<'_>,
-    lane: u32,
-    cycles: u32,
-) -> Result<(), WriteNo>
-    requires host { IsHostAtEnd host.now.image host.now.feed host.now }
-    requires lanes { AreLanes host.now.image.columns host.now.feed }
-    requires lane { lane < length host.now.feed.lanes }
-    requires all { cycles ≡ cycle_count (own_stimulus host.now.image.columns host.now.feed lane) }
-    requires room { HasLineRoom net.now host.now.image room.old }
-    ensures room { HasLineRoom net.now host.now.image room.new }
-    ensures written { Takes (O.taken out.old) (O.taken out.new) (O.faults out.old) (O.faults out.new) result (bytes_of_run net.now host.now.image (own_stimulus host.now.image.columns host.now.feed lane)) }
-{
-    room.line.header(net);
-    match write_piece(out, room.line.bytes()) {
-        Ok(()) => write_rows(out, net, room, host, lane, cycles),
-        Err(no) => Err(no),
-    }
-}
-
-/// Writes the line of a lane, and its trace.
+/// Writes the line of a lane, and its trace: the header, and the lines of its own cycles.
 fn write_lane<O: Sink>(
     out: &mut O,
     net: &Netlist,
@@ -121,10 +94,10 @@ fn write_lane<O: Sink>(
     ensures written { Takes (O.taken out.old) (O.taken out.new) (O.faults out.old) (O.faults out.new) result (bytes_of_lane net.now host.now.image (lane + 1) stim.now) }
 {
     room.mark.lane(lane + 1);
-    match write_piece(out, room.mark.bytes()) {
-        Ok(()) => write_trace(out, net, room, host, lane, stim.cycles()),
-        Err(no) => Err(no),
-    }
+    write_piece(out, room.mark.bytes())?;
+    room.line.header(net);
+    write_piece(out, room.line.bytes())?;
+    write_rows(out, net, room, host, lane, stim.cycles())
 }
 
 /// Writes the lines of all lanes, counted from 1, one line a piece. It takes no memory.
@@ -142,9 +115,7 @@ pub(crate) fn write_lanes<O: Sink>(
 {
     'lanes: for l in 0..lanes.lanes.len() {
         let stim = &lanes.lanes.as_slice()[l];
-        if let Err(no) = write_lane(out, net, room, host, l as u32, stim) {
-            return Err(no);
-        }
+        write_lane(out, net, room, host, l as u32, stim)?;
     }
     Ok(())
 }

@@ -62,38 +62,22 @@ pub fn run_pack<R: Threads + Wait + Sync, G: Gate + Send, O: Sink>(
     ensures kept { AreInPlace gates.old gates.new }
 {
     let mut room = line_room(alloc, net)?;
-    let (bar, passes) = match PackBar::make(rt, alloc, image, lanes) {
-        Ok(made) => made,
-        Err(no) => {
-            drop(room);
-            return Err(no);
-        }
-    };
+    let (bar, passes) = PackBar::make(rt, alloc, image, lanes)?;
     let seats = PackSeats {
         bar: &bar,
         image,
         lanes,
         workers,
     };
-    let mut crew = match workers_of(alloc, &seats, passes, workers) {
-        Ok(crew) => crew,
-        Err(no) => {
-            drop(room);
-            return Err(no);
-        }
-    };
+    let mut crew = workers_of(alloc, &seats, passes, workers)?;
     run_with(rt, crew.as_mut_slice(), gates);
-    let wrote = write_lanes(
+    Ok(write_lanes(
         out,
         net,
         &mut room,
         lanes,
         host(crew.as_slice(), image, lanes),
-    );
-    drop(crew);
-    drop(bar);
-    drop(room);
-    Ok(wrote)
+    ))
 }
 
 /// The host, once all ports have made all turns.

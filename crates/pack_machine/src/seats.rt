@@ -44,15 +44,8 @@ impl<'a> Seats for PackSeats<'a> {
         ensures fits { IfOk result (IsSeatOf (at_first self.now.image.now self.now.lanes.now self.now.workers)) }
         ensures port { IfOk result (λ seat. seat.run.port ≡ pass.port) }
     {
-        match PackPort::new(alloc, self.image, self.lanes, pass.port()) {
-            Ok(port) => {
-                let run = PackRunning::new(pass, port);
-                Ok(PackSeated { bar: self.bar, run })
-            }
-            Err(no) => {
-                drop(pass);
-                Err(no)
-            }
-        }
+        let port = PackPort::new(alloc, self.image, self.lanes, pass.port())?;
+        let run = PackRunning::new(pass, port);
+        Ok(PackSeated { bar: self.bar, run })
     }
 }

@@ -34,9 +34,7 @@ pub fn report(
     ensures { IfOk result (IsReport net.now nodes.now homes.now plan.now) }
 {
     let figures = Figures::new(alloc, nodes, homes, plan, switch)?;
-    let text = report_of(alloc, net, nodes, homes, plan, &figures);
-    drop(figures);
-    text
+    report_of(alloc, net, nodes, homes, plan, &figures)
 }
 
 /// The report with these figures.

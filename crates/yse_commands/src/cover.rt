@@ -33,22 +33,9 @@ pub fn cover<'a, F: Files>(
         (outcome_of None result) (ExpectedCover words.now) }
     ensures writable { IfOk result CanWrite }
 {
-    let Timed { net, timing } = match design_from(alloc, files, words) {
-        Ok(timed) => timed,
-        Err(no) => return Err(no),
-    };
-    match ranked(alloc, net, &timing) {
-        Ok(design) => {
-            let covered = coverage_of(alloc, files, words, &timing, &design);
-            drop(timing);
-            drop(design);
-            covered
-        }
-        Err(no) => {
-            drop(timing);
-            Err(no)
-        }
-    }
+    let Timed { net, timing } = design_from(alloc, files, words)?;
+    let design = ranked(alloc, net, &timing)?;
+    coverage_of(alloc, files, words, &timing, &design)
 }
 
 /// The same of a netlist with its ranks.
@@ -68,13 +55,8 @@ fn coverage_of<'a, F: Files>(
         (outcome_of None result) (AfterStimulus words.now.stimulus design.now.net (WritesCoverage design.now.net timing.now)) }
     ensures writable { IfOk result CanWrite }
 {
-    let stimulus = match stimulus_in(alloc, files, words.stimulus.as_bytes(), &design.net) {
-        Ok(stimulus) => stimulus,
-        Err(no) => return Err(no),
-    };
-    let lines = lines_of(alloc, timing, design, &stimulus);
-    drop(stimulus);
-    match lines {
+    let stimulus = stimulus_in(alloc, files, words.stimulus.as_bytes(), &design.net)?;
+    match lines_of(alloc, timing, design, &stimulus) {
         Ok(lines) => Ok(Output::Lines(lines)),
         Err(Memory) => Err(Refusal::Memory),
     }

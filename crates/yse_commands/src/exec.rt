@@ -44,14 +44,8 @@ pub fn exec<'a, R: Threads + Wait + Sync, F: Files, O: Sink, G: Gate + Send>(
     ensures written { MayTake O.taken O.faults out.old out.new result }
     ensures in_place { AreInPlace gates.old gates.new }
 {
-    let run = match runnable_in(alloc, files, words, image) {
-        Ok(run) => run,
-        Err(no) => return Err(no),
-    };
-    let stimulus = match stimulus_in(alloc, files, words.stimulus.as_bytes(), &run.net) {
-        Ok(stimulus) => stimulus,
-        Err(no) => return Err(no),
-    };
+    let run = runnable_in(alloc, files, words, image)?;
+    let stimulus = stimulus_in(alloc, files, words.stimulus.as_bytes(), &run.net)?;
     match by_workers(rt, alloc, words, run, stimulus, out, gates) {
         Ok(written) => Ok(Output::Written(written)),
         Err(Memory) => Err(Refusal::Memory),

@@ -37,22 +37,9 @@ pub fn fault<'a, R: Threads + Sync, F: Files>(
         (outcome_of None result) (ExpectedFault words.now) }
     ensures writable { IfOk result CanWrite }
 {
-    let Timed { net, timing } = match design_from(alloc, files, words) {
-        Ok(timed) => timed,
-        Err(no) => return Err(no),
-    };
-    match ranked(alloc, net, &timing) {
-        Ok(design) => {
-            let listed = faults_of(rt, alloc, files, words, &timing, &design);
-            drop(timing);
-            drop(design);
-            listed
-        }
-        Err(no) => {
-            drop(timing);
-            Err(no)
-        }
-    }
+    let Timed { net, timing } = design_from(alloc, files, words)?;
+    let design = ranked(alloc, net, &timing)?;
+    faults_of(rt, alloc, files, words, &timing, &design)
 }
 
 /// The same of a netlist with its ranks.
@@ -75,14 +62,9 @@ fn faults_of<'a, R: Threads + Sync, F: Files>(
         AfterFaultList words.now.faults design.now.net (AfterListed words.now.stimulus design.now.net timing.now))) }
     ensures writable { IfOk result CanWrite }
 {
-    match few_signals(&design.net) {
-        Ok(()) => {}
-        Err(no) => return Err(no),
-    }
-    match faults_from(alloc, files, &words.faults, &design.net) {
-        Ok(listed) => listed_of(rt, alloc, files, words, timing, design, listed),
-        Err(no) => Err(no),
-    }
+    few_signals(&design.net)?;
+    let listed = faults_from(alloc, files, &words.faults, &design.net)?;
+    listed_of(rt, alloc, files, words, timing, design, listed)
 }
 
 /// The same with the list of faults that was read.
@@ -106,13 +88,8 @@ fn listed_of<'a, R: Threads + Sync, F: Files>(
         (outcome_of None result) (AfterListed words.now.stimulus design.now.net timing.now listed) }
     ensures writable { IfOk result CanWrite }
 {
-    let stimulus = match stimulus_in(alloc, files, words.stimulus.as_bytes(), &design.net) {
-        Ok(stimulus) => stimulus,
-        Err(no) => return Err(no),
-    };
-    let lines = lines_of(rt, alloc, words, timing, design, listed, &stimulus);
-    drop(stimulus);
-    match lines {
+    let stimulus = stimulus_in(alloc, files, words.stimulus.as_bytes(), &design.net)?;
+    match lines_of(rt, alloc, words, timing, design, listed, &stimulus) {
         Ok(lines) => Ok(Output::Lines(lines)),
         Err(Memory) => Err(Refusal::Memory),
     }

@@ -39,10 +39,7 @@ pub fn lay_out<'a, F: Files>(
         (outcome_of None result) (ExpectedLayout sheet words.now) }
     ensures writable { IfOk result CanWrite }
 {
-    let planned = match planned_on_machine(alloc, files, words) {
-        Ok(planned) => planned,
-        Err(no) => return Err(no),
-    };
+    let planned = planned_on_machine(alloc, files, words)?;
     match sheet_of(alloc, planned, sheet) {
         Ok(text) => Ok(Output::Text(text)),
         Err(Memory) => Err(Refusal::Memory),

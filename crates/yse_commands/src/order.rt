@@ -31,14 +31,8 @@ pub fn order<'a, F: Files>(
         (outcome_of None result) (ExpectedOrder words.now) }
     ensures writable { IfOk result CanWrite }
 {
-    let ready = match ready_on_machine(alloc, files, words) {
-        Ok(ready) => ready,
-        Err(no) => return Err(no),
-    };
-    match few_ready_cells(&ready) {
-        Ok(()) => {}
-        Err(no) => return Err(no),
-    }
+    let ready = ready_on_machine(alloc, files, words)?;
+    few_ready_cells(&ready)?;
     match &words.order {
         Some(file) => in_order(alloc, files, words, file.as_bytes(), ready),
         None => match by_rounds(alloc, words, ready) {
@@ -64,10 +58,7 @@ fn in_order<'a, F: Files>(
         (outcome_of None result) (AfterOrderFile file.now ready.placed.machine (EndsAfter words.now ready.placed ready.stimulus)) }
     ensures writable { IfOk result CanWrite }
 {
-    let order = match order_for(alloc, files, file, &ready) {
-        Ok(order) => order,
-        Err(no) => return Err(no),
-    };
+    let order = order_for(alloc, files, file, &ready)?;
     match by_order(alloc, words, ready, &order) {
         Ok(output) => Ok(output),
         Err(Memory) => Err(Refusal::Memory),

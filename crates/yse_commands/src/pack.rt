@@ -49,22 +49,10 @@ pub fn pack<'a, R: Threads + Wait + Sync, F: Files, O: Sink, G: Gate + Send>(
     ensures written { MayTake O.taken O.faults out.old out.new result }
     ensures in_place { AreInPlace gates.old gates.new }
 {
-    let design = match design_on_machine(alloc, files, words) {
-        Ok(design) => design,
-        Err(no) => return Err(no),
-    };
-    match few_bits(&design) {
-        Ok(()) => {}
-        Err(no) => return Err(no),
-    }
-    let lanes = match lanes_for(alloc, files, words, &design) {
-        Ok(lanes) => lanes,
-        Err(no) => return Err(no),
-    };
-    match few_lane_cells(&design, &lanes) {
-        Ok(()) => {}
-        Err(no) => return Err(no),
-    }
+    let design = design_on_machine(alloc, files, words)?;
+    few_bits(&design)?;
+    let lanes = lanes_for(alloc, files, words, &design)?;
+    few_lane_cells(&design, &lanes)?;
     match lane_traces(rt, alloc, words, design, lanes, out, gates) {
         Ok(run) => Ok(Output::Lanes(run)),
         Err(Memory) => Err(Refusal::Memory),
@@ -94,14 +82,11 @@ fn lane_traces<R: Threads + Wait + Sync, O: Sink, G: Gate + Send>(
 {
     let OnMachine { run, .. } = design;
     let Runnable { net, image, .. } = run;
-    let wrote = run_pack(rt, alloc, &net, &image, &lanes, words.workers, gates, out);
-    match wrote {
-        Ok(wrote) => Ok(WrittenLanes {
-            net,
-            image,
-            lanes,
-            wrote,
-        }),
-        Err(no) => Err(no),
-    }
+    let wrote = run_pack(rt, alloc, &net, &image, &lanes, words.workers, gates, out)?;
+    Ok(WrittenLanes {
+        net,
+        image,
+        lanes,
+        wrote,
+    })
 }

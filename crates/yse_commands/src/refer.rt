@@ -33,29 +33,10 @@ pub fn refer<'a, F: Files>(
         (outcome_of None result) (ExpectedRefer words.now) }
     ensures writable { IfOk result CanWrite }
 {
-    let Timed { net, timing } = match design_from(alloc, files, words) {
-        Ok(timed) => timed,
-        Err(no) => return Err(no),
-    };
-    let design = match ordered(alloc, net, &timing) {
-        Ok(design) => design,
-        Err(no) => {
-            drop(timing);
-            return Err(no);
-        }
-    };
-    let stimulus = match stimulus_in(alloc, files, words.stimulus.as_bytes(), &design.net) {
-        Ok(stimulus) => stimulus,
-        Err(no) => {
-            drop(timing);
-            drop(design);
-            return Err(no);
-        }
-    };
-    let result = kept(alloc, &timing, design, &stimulus);
-    drop(timing);
-    drop(stimulus);
-    result
+    let Timed { net, timing } = design_from(alloc, files, words)?;
+    let design = ordered(alloc, net, &timing)?;
+    let stimulus = stimulus_in(alloc, files, words.stimulus.as_bytes(), &design.net)?;
+    kept(alloc, &timing, design, &stimulus)
 }
 
 /// The trace of a simulation under a stimulus, if its cells are few enough to be kept.
@@ -72,15 +53,10 @@ fn kept<'a>(
     ensures expected { KeepsTrace design.net timing.now stimulus.now [] (outcome_of None result) }
     ensures writable { IfOk result CanWrite }
 {
-    match few_cells(&design.net, stimulus) {
-        Ok(()) => match printed(alloc, timing, design, stimulus) {
-            Ok(trace) => Ok(Output::Trace(trace)),
-            Err(Memory) => Err(Refusal::Memory),
-        },
-        Err(no) => {
-            drop(design);
-            Err(no)
-        }
+    few_cells(&design.net, stimulus)?;
+    match printed(alloc, timing, design, stimulus) {
+        Ok(trace) => Ok(Output::Trace(trace)),
+        Err(Memory) => Err(Refusal::Memory),
     }
 }
 
@@ -99,20 +75,7 @@ fn printed(
     ensures writable { IfOk result CanPrint }
 {
     let Design { net, order } = design;
-    let line = match TraceLine::new(alloc, &net) {
-        Ok(line) => line,
-        Err(no) => {
-            drop(net);
-            drop(order);
-            return Err(no);
-        }
-    };
-    match refer_in_order(alloc, &net, timing, stimulus, order) {
-        Ok(rows) => Ok(Trace { net, rows, line }),
-        Err(no) => {
-            drop(net);
-            drop(line);
-            Err(no)
-        }
-    }
+    let line = TraceLine::new(alloc, &net)?;
+    let rows = refer_in_order(alloc, &net, timing, stimulus, order)?;
+    Ok(Trace { net, rows, line })
 }

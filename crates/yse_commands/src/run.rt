@@ -43,10 +43,7 @@ pub fn run<'a, R: Threads + Wait + Sync, F: Files, O: Sink, G: Gate + Send>(
     ensures written { MayTake O.taken O.faults out.old out.new result }
     ensures in_place { AreInPlace gates.old gates.new }
 {
-    let ready = match ready_on_machine(alloc, files, words) {
-        Ok(ready) => ready,
-        Err(no) => return Err(no),
-    };
+    let ready = ready_on_machine(alloc, files, words)?;
     match on_workers(rt, alloc, words, ready, out, gates) {
         Ok(written) => Ok(Output::Written(written)),
         Err(Memory) => Err(Refusal::Memory),

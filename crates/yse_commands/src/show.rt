@@ -25,13 +25,8 @@ pub fn show<'a, F: Files>(
         (outcome_of None result) (ExpectedShow file.now) }
     ensures writable { IfOk result CanWrite }
 {
-    let net = match netlist_in(alloc, files, file) {
-        Ok(net) => net,
-        Err(no) => return Err(no),
-    };
-    let text = canonical_text(alloc, &net);
-    drop(net);
-    match text {
+    let net = netlist_in(alloc, files, file)?;
+    match canonical_text(alloc, &net) {
         Ok(text) => Ok(Output::Text(text)),
         Err(Memory) => Err(Refusal::Memory),
     }

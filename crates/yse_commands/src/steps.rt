@@ -84,16 +84,13 @@ pub fn by_workers<R: Threads + Wait + Sync, O: Sink, G: Gate + Send>(
         banks: words.banks,
         workers: words.workers,
     };
-    let wrote = run_blocks(rt, alloc, &net, &image, &stimulus, division, gates, out);
-    match wrote {
-        Ok(wrote) => Ok(Written {
-            net,
-            image,
-            stimulus,
-            wrote,
-        }),
-        Err(no) => Err(no),
-    }
+    let wrote = run_blocks(rt, alloc, &net, &image, &stimulus, division, gates, out)?;
+    Ok(Written {
+        net,
+        image,
+        stimulus,
+        wrote,
+    })
 }
 
 /// The trace of a design: all ports step, round after round, until they are done.

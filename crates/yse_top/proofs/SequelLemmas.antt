@@ -28,6 +28,7 @@ use Rattle.yse_compile.specs.Designs.{IsAcyclic}
 use Rattle.image_defs.specs.declared.file.Claims.{Claims}
 use Rattle.refusal_lines.specs.declared.status.Status.{Status}
 use Rattle.refusal_lines.specs.declared.status.Status.TheVariants as status
+use Rattle.named_files.specs.declared.reading.Timed.{Timed}
 use Rattle.named_files.specs.Checks.{After, AfterRead, AfterFile, Ends, HasNoLoop, HasRoom, IsListOf, IsMachineOf, IsNetlistOf, IsStimulusOf, Writes, WritesTold, listing, read_fault, text_of}
 use Rattle.named_files.specs.Files.{AfterFit, AfterImage, AfterList, AfterMachine, AfterMatch, AfterNetlist, AfterStimulus}
 use Rattle.named_files.specs.Images.{IsImageFileOf}
@@ -82,34 +83,11 @@ abbrev pub IsEndOf : List ℕ → Outcome → Type 0
 IsEndOf output o = ((o.status ≡ status.Done) × (o.output ≡ output)) ⊎ (o.status ≡ status.Memory) ⊎ (o.status ≡ status.ReadFault)
 
 module _ (held : List ℕ → List ℕ) where
-  -- a text that was read, and what came of it
-  record Read (file : List ℕ) (Next : List ℕ → List Reading → Outcome → Type 0) (o : Outcome) : Type 0 where
-    text : List ℕ
-    passes : text_of file (held file) ≡ Ok text
-    others : List Reading
-    are : AreHeld held others
-    next : Next text others o
-
-  read_well : (file : List ℕ) (Next : List ℕ → List Reading → Outcome → Type 0) (readings : List Reading) (o : Outcome) → AreHeld held readings → o.status ≡ status.Done → AfterFile file Next readings o → Read file Next o
-  read_well file Next [] o are well after = absurd after
-  read_well file Next (reading ∷ readings) o are well (is, after) = by reading.bytes (are zero reading refl) after
-    where
-      too_long : (b : List ℕ) → text_of file b ≡ Err o → ⊥
-      too_long b e = subst IsOfText well ((text_check file b).of_text o e)
-
-      by : (b : Option (List ℕ)) → IfSome b (λ bytes. bytes ≡ held reading.file) → AfterRead file b Next readings o → Read file Next o
-      by None known (none, fault) = absurd (other_end o status.ReadFault well (ap (λ (p : Outcome). p.status) fault) (λ e. cc))
-      by (Some b) known here =
-          let passed = let_pass (λ result. text_of file b ≡ result) Next readings o well (too_long b) here in
-          record {
-            text = passed.0;
-            passes = ap (text_of file) (ap held (sym is) ∙ sym known) ∙ passed.1;
-            others = readings;
-            are = λ place r at. are (suc place) r at;
-            next = passed.2;
-          }
-
   -- ---- a design, as files hold it
+
+  -- what the text of a file passes as
+  abbrev HeldIn : {X : Type 0} → List ℕ → (List ℕ → Result X Outcome → Type 0) → X → Type 0
+  HeldIn file Check x = (text : List ℕ) × (text_of file (held file) ≡ Ok text) × Check text (Ok x)
 
   -- the timing, with the gates listed that the file of the list names
   abbrev pub TimingHeld : Option (List ℕ) → Netlist → Timing → Timing → Type 0
@@ -124,165 +102,150 @@ module _ (held : List ℕ → List ℕ) where
     pub reads : bench.Reads text net
     pub timing_is : TimingHeld last net given timing
 
-  record ListWell (last : Option (List ℕ)) (net : Netlist) (given : Timing) (Next : Timing → List Reading → Outcome → Type 0) (o : Outcome) : Type 0 where
-    timing : Timing
-    timing_is : TimingHeld last net given timing
-    others : List Reading
-    are : AreHeld held others
-    next : Next timing others o
+  -- a design that fits its machine
+  record PlacedHeld (words : RunWords) (placed : Placed) : Type 0 where
+    valid : IsValidMachine placed.machine
+    design : DesignHeld words.netlist words.last words.timing placed.net placed.timing
+    acyclic : IsAcyclic placed.net placed.timing
 
-  list_well : (last : Option (List ℕ)) (net : Netlist) (given : Timing) (Next : Timing → List Reading → Outcome → Type 0) (readings : List Reading) (o : Outcome) → AreHeld held readings → o.status ≡ status.Done → AfterList last net given Next readings o → ListWell last net given Next o
-  unfolding AfterList
-  list_well None net given Next readings o are well after = record { timing = given; timing_is = refl; others = readings; are = are; next = after }
-  list_well (Some file) net given Next readings o are well after =
-      let Listed : List ℕ → List Reading → Outcome → Type 0 = λ listed. Next (listing given listed) in
-      let first = read_well file (λ text. After (IsListOf text net) Listed) readings o are well after in
-      let list = let_pass (IsListOf first.text net) Listed first.others o well (λ e. other_end o status.LastList well (ap (λ (p : Outcome). p.status) e.2) (λ e. cc)) first.next in
-      record {
-        timing = listing given list.0;
-        timing_is = (first.text, list.0, first.passes, list.1, refl);
-        others = first.others;
-        are = first.are;
-        next = list.2;
-      }
-
-  pub record NetlistWell (words : RunWords) (End : Netlist → Timing → List Reading → Outcome → Type 0) (o : Outcome) : Type 0 where
+  -- the text of the image of a design that the files hold
+  pub record CompiledWell (words : RunWords) (o : Outcome) : Type 0 where
+    pub machine : Machine
+    pub valid : IsValidMachine machine
     pub net : Netlist
     pub timing : Timing
     pub design : DesignHeld words.netlist words.last words.timing net timing
-    pub others : List Reading
-    pub are : AreHeld held others
-    pub ends : End net timing others o
+    pub text : IsImageTextOf words.homes net machine timing o.output
 
-  pub netlist_well : (words : RunWords) (End : Netlist → Timing → List Reading → Outcome → Type 0) (readings : List Reading) (o : Outcome) → AreHeld held readings → o.status ≡ status.Done → AfterNetlist words End readings o → NetlistWell words End o
-  unfolding AfterNetlist
-  netlist_well words End readings o are well after =
-      let Listed : Netlist → List Reading → Outcome → Type 0 = λ net. AfterList words.last net words.timing (End net) in
-      let first = read_well words.netlist (λ text. After (IsNetlistOf text) Listed) readings o are well after in
-      let net = let_pass (IsNetlistOf first.text) Listed first.others o well (λ e. other_end o status.Netlist well (ap (λ (p : Outcome). p.status) e.2) (λ e. cc)) first.next in
-      let list = list_well words.last net.0 words.timing (End net.0) first.others o first.are well net.2 in
-      record {
-        net = net.0;
-        timing = list.timing;
-        design = record { text = first.text; passes = first.passes; reads = net.1; timing_is = list.timing_is };
-        others = list.others;
-        are = list.are;
-        ends = list.next;
-      }
+  -- the trace of a design and a stimulus that the files hold
+  pub record RanWell (words : RunWords) (o : Outcome) : Type 0 where
+    pub net : Netlist
+    pub timing : Timing
+    pub design : DesignHeld words.netlist words.last words.timing net timing
+    pub acyclic : IsAcyclic net timing
+    pub text : List ℕ
+    pub passes : text_of words.stimulus (held words.stimulus) ≡ Ok text
+    pub stimulus : Stimulus
+    pub reads : stim.Reads (input_count net) text stimulus
+    pub trace : IsTrace net timing stimulus o.output
 
   -- ---- a call of `compile` or `run` that ended well
 
-  record MachineWell (Next : Machine → List Reading → Outcome → Type 0) (o : Outcome) : Type 0 where
-    machine : Machine
-    valid : IsValidMachine machine
-    others : List Reading
-    are : AreHeld held others
-    next : Next machine others o
+  module _ (o : Outcome) (well : o.status ≡ status.Done) where
+    -- a value that it came to, what it is, and what comes of it
+    record Reached {X : Type 0} (Is : X → Type 0) (Next : Continuation X) : Type 0 where
+      value : X
+      is : Is value
+      others : List Reading
+      are : AreHeld held others
+      next : Next value others o
 
-  module _ (laws : Laws) where
-    machine_well : (file : Option (List ℕ)) (Next : Machine → List Reading → Outcome → Type 0) (readings : List Reading) (o : Outcome) → AreHeld held readings → o.status ≡ status.Done → AfterMachine file Next readings o → MachineWell Next o
-    unfolding AfterMachine
-    machine_well None Next readings o are well after = record { machine = default_machine; valid = laws.default_valid; others = readings; are = are; next = after }
-    machine_well (Some file) Next readings o are well after =
-        let first = read_well file (λ text. After (IsMachineOf text) Next) readings o are well after in
-        let machine = let_pass (IsMachineOf first.text) Next first.others o well (λ e. other_end o status.Machine well (ap (λ (p : Outcome). p.status) e.2) (λ e. cc)) first.next in
-        record { machine = machine.0; valid = laws.valid_machines first.text machine.0 machine.1; others = first.others; are = first.are; next = machine.2 }
+    reached_file : {X : Type 0} (file : List ℕ) (Check : List ℕ → Result X Outcome → Type 0) (Next : Continuation X) (readings : List Reading) → ((text : List ℕ) → Check text (Err o) → ⊥) → AreHeld held readings
+        → AfterFile file (λ text. After (Check text) Next) readings o → Reached (HeldIn file Check) Next
+    reached_file file Check Next [] never are after = absurd after
+    reached_file file Check Next (reading ∷ readings) never are (is, after) = by reading.bytes (are zero reading refl) after
+      where
+        Checked : List ℕ → List Reading → Outcome → Type 0
+        Checked text = After (Check text) Next
 
-    fit_well : (choice : HomeChoice) (net : Netlist) (machine : Machine) (timing : Timing) (Next : List Reading → Outcome → Type 0) (readings : List Reading) (o : Outcome) → o.status ≡ status.Done → AfterFit choice net machine timing Next readings o → IsAcyclic net timing × Next readings o
-    fit_well choice net machine timing Next readings o well after =
+        too_long : (b : List ℕ) → text_of file b ≡ Err o → ⊥
+        too_long b e = subst IsOfText well ((text_check file b).of_text o e)
+
+        by : (b : Option (List ℕ)) → IfSome b (λ bytes. bytes ≡ held reading.file) → AfterRead file b Checked readings o → Reached (HeldIn file Check) Next
+        by None known (none, fault) = absurd (other_end o status.ReadFault well (ap (λ (p : Outcome). p.status) fault) (λ e. cc))
+        by (Some b) known here =
+            let whole = let_pass (λ result. text_of file b ≡ result) Checked readings o well (too_long b) here in
+            let found = let_pass (Check whole.0) Next readings o well (never whole.0) whole.2 in
+            record {
+              value = found.0;
+              is = (whole.0, ap (text_of file) (ap held (sym is) ∙ sym known) ∙ whole.1, found.1);
+              others = readings;
+              are = λ place r at. are (suc place) r at;
+              next = found.2;
+            }
+
+    reached_timing : (last : Option (List ℕ)) (net : Netlist) (given : Timing) (Next : Continuation Timing) (readings : List Reading) → AreHeld held readings → AfterList last net given Next readings o → Reached (TimingHeld last net given) Next
+    unfolding AfterList
+    reached_timing None net given Next readings are after = record { value = given; is = refl; others = readings; are = are; next = after }
+    reached_timing (Some file) net given Next readings are after =
+        let list = reached_file file (λ text. IsListOf text net) (λ listed. Next (listing given listed)) readings (λ text e. other_end o status.LastList well (ap (λ (p : Outcome). p.status) e.2) (λ e. cc)) are after in
+        record { value = listing given list.value; is = (list.is.0, list.value, list.is.1, list.is.2, refl); others = list.others; are = list.are; next = list.next }
+
+    reached_netlist : (words : RunWords) (End : Netlist → Timing → List Reading → Outcome → Type 0) (readings : List Reading) → AreHeld held readings → AfterNetlist words End readings o
+        → Reached {X = Timed} (λ design. DesignHeld words.netlist words.last words.timing design.net design.timing) (λ design. End design.net design.timing)
+    unfolding AfterNetlist
+    reached_netlist words End readings are after =
+        let net = reached_file words.netlist (λ text. IsNetlistOf text) (λ net. AfterList words.last net words.timing (End net)) readings (λ text e. other_end o status.Netlist well (ap (λ (p : Outcome). p.status) e.2) (λ e. cc)) are after in
+        let list = reached_timing words.last net.value words.timing (End net.value) net.others net.are net.next in
+        record {
+          value = record { net = net.value; timing = list.value };
+          is = record { text = net.is.0; passes = net.is.1; reads = net.is.2; timing_is = list.is };
+          others = list.others;
+          are = list.are;
+          next = list.next;
+        }
+
+    reached_fit : (choice : HomeChoice) (net : Netlist) (machine : Machine) (timing : Timing) (Next : List Reading → Outcome → Type 0) (readings : List Reading) → AfterFit choice net machine timing Next readings o → IsAcyclic net timing × Next readings o
+    reached_fit choice net machine timing Next readings after =
         let order = let_pass (HasNoLoop net timing) (λ passed. After (HasRoom choice net machine timing) (λ fits. Next)) readings o well (λ e. other_end o status.Loop well (ap (λ (p : Outcome). p.status) e.2) (λ e. cc)) after in
         (order.1, (let_pass (HasRoom choice net machine timing) (λ fits. Next) readings o well (λ e. other_end o status.Overfull well (ap (λ (p : Outcome). p.status) e.4) (λ e. cc)) order.2).2)
 
-    -- a design that fits its machine
-    record PlacedWell (words : RunWords) (Next : Continuation Placed) (o : Outcome) : Type 0 where
-      machine : Machine
-      valid : IsValidMachine machine
-      net : Netlist
-      timing : Timing
-      design : DesignHeld words.netlist words.last words.timing net timing
-      acyclic : IsAcyclic net timing
-      others : List Reading
-      are : AreHeld held others
-      next : Next (placed words machine net timing) others o
-
-    placed_well : (words : RunWords) (Next : Continuation Placed) (readings : List Reading) (o : Outcome) → AreHeld held readings → o.status ≡ status.Done → AfterPlaced words Next readings o → PlacedWell words Next o
-    placed_well words Next readings o are well after =
-        let first = machine_well words.machine (λ machine. AfterPlacedOn words machine Next) readings o are well after in
-        let machine = first.machine in
-        let on = netlist_well words (λ net timing. AfterFit words.homes net machine timing (Next (placed words machine net timing))) first.others o first.are well first.next in
-        let fits = fit_well words.homes on.net machine on.timing (Next (placed words machine on.net on.timing)) on.others o well on.ends in
-        record {
-          machine = machine;
-          valid = first.valid;
-          net = on.net;
-          timing = on.timing;
-          design = on.design;
-          acyclic = fits.0;
-          others = on.others;
-          are = on.are;
-          next = fits.1;
-        }
-
     -- what such an end writes
-    written_well : (told : Option Turns) (IsOutput : List ℕ → Type 0) (readings : List Reading) (o : Outcome) → o.status ≡ status.Done → Ends (WritesTold told IsOutput) readings o → IsOutput o.output
-    written_well told IsOutput readings o well (none, inl (text, is, same)) = subst IsOutput (sym (ap (λ (p : Outcome). p.output) same)) is
-    written_well told IsOutput readings o well (none, inr memory) = absurd (other_end o status.Memory well (memory_status o memory) (λ e. cc))
+    written_well : (told : Option Turns) (IsOutput : List ℕ → Type 0) (readings : List Reading) → Ends (WritesTold told IsOutput) readings o → IsOutput o.output
+    written_well told IsOutput readings (none, inl (text, is, same)) = subst IsOutput (sym (ap (λ (p : Outcome). p.output) same)) is
+    written_well told IsOutput readings (none, inr memory) = absurd (other_end o status.Memory well (memory_status o memory) (λ e. cc))
 
-    -- the text of the image of a design that the files hold
-    pub record CompiledWell (words : RunWords) (o : Outcome) : Type 0 where
-      pub machine : Machine
-      pub valid : IsValidMachine machine
-      pub net : Netlist
-      pub timing : Timing
-      pub design : DesignHeld words.netlist words.last words.timing net timing
-      pub text : IsImageTextOf words.homes net machine timing o.output
+    module _ (laws : Laws) where
+      reached_machine : (file : Option (List ℕ)) (Next : Continuation Machine) (readings : List Reading) → AreHeld held readings → AfterMachine file Next readings o → Reached IsValidMachine Next
+      unfolding AfterMachine
+      reached_machine None Next readings are after = record { value = default_machine; is = laws.default_valid; others = readings; are = are; next = after }
+      reached_machine (Some file) Next readings are after =
+          let machine = reached_file file (λ text. IsMachineOf text) Next readings (λ text e. other_end o status.Machine well (ap (λ (p : Outcome). p.status) e.2) (λ e. cc)) are after in
+          record { value = machine.value; is = laws.valid_machines machine.is.0 machine.value machine.is.2; others = machine.others; are = machine.are; next = machine.next }
 
-    pub compiled_well : (words : RunWords) (readings : List Reading) (o : Outcome) → AreHeld held readings → o.status ≡ status.Done → ExpectedLayout sheet.Image words readings o → CompiledWell words o
-    compiled_well words readings o are well after =
-        let IsText : Placed → List ℕ → Type 0 = λ design. IsSheetOf sheet.Image words.homes design.net design.machine design.timing in
-        let on = placed_well words (λ design. Ends (Writes (IsText design))) readings o are well after in
-        record {
-          machine = on.machine;
-          valid = on.valid;
-          net = on.net;
-          timing = on.timing;
-          design = on.design;
-          text = written_well None (IsText (placed words on.machine on.net on.timing)) on.others o well on.next;
-        }
+      reached_placed : (words : RunWords) (Next : Continuation Placed) (readings : List Reading) → AreHeld held readings → AfterPlaced words Next readings o → Reached (PlacedHeld words) Next
+      reached_placed words Next readings are after =
+          let first = reached_machine words.machine (λ machine. AfterPlacedOn words machine Next) readings are after in
+          let machine = first.value in
+          let on = reached_netlist words (λ net timing. AfterFit words.homes net machine timing (Next (placed words machine net timing))) first.others first.are first.next in
+          let design = placed words machine on.value.net on.value.timing in
+          let fits = reached_fit words.homes design.net machine design.timing (Next design) on.others on.next in
+          record { value = design; is = record { valid = first.is; design = on.is; acyclic = fits.0 }; others = on.others; are = on.are; next = fits.1 }
 
-    -- the trace of a design and a stimulus that the files hold
-    pub record RanWell (words : RunWords) (o : Outcome) : Type 0 where
-      pub net : Netlist
-      pub timing : Timing
-      pub design : DesignHeld words.netlist words.last words.timing net timing
-      pub acyclic : IsAcyclic net timing
-      pub text : List ℕ
-      pub passes : text_of words.stimulus (held words.stimulus) ≡ Ok text
-      pub stimulus : Stimulus
-      pub reads : stim.Reads (input_count net) text stimulus
-      pub trace : IsTrace net timing stimulus o.output
+      pub compiled_well : (words : RunWords) (readings : List Reading) → AreHeld held readings → ExpectedLayout sheet.Image words readings o → CompiledWell words o
+      compiled_well words readings are after =
+          let IsText : Placed → List ℕ → Type 0 = λ design. IsSheetOf sheet.Image words.homes design.net design.machine design.timing in
+          let on = reached_placed words (λ design. Ends (Writes (IsText design))) readings are after in
+          record {
+            machine = on.value.machine;
+            valid = on.is.valid;
+            net = on.value.net;
+            timing = on.value.timing;
+            design = on.is.design;
+            text = written_well None (IsText on.value) on.others on.next;
+          }
 
-    pub ran_well : (words : RunWords) (readings : List Reading) (o : Outcome) → AreHeld held readings → o.status ≡ status.Done → ExpectedRun words readings o → RanWell words o
-    unfolding AfterStimulus
-    ran_well words readings o are well after =
-        let Run : Placed → Stimulus → List Reading → Outcome → Type 0 = λ design stimulus. RunsOn words (record { placed = design; stimulus = stimulus }) in
-        let on = placed_well words (λ design. AfterStimulus words.stimulus design.net (Run design)) readings o are well after in
-        let net = on.net in
-        let Then : Stimulus → List Reading → Outcome → Type 0 = Run (placed words on.machine net on.timing) in
-        let second = read_well words.stimulus (λ text. After (IsStimulusOf text net) Then) on.others o on.are well on.next in
-        let stimulus = let_pass (IsStimulusOf second.text net) Then second.others o well (λ e. other_end o status.Stimulus well (ap (λ (p : Outcome). p.status) e.2) (λ e. cc)) second.next in
-        record {
-          net = net;
-          timing = on.timing;
-          design = on.design;
-          acyclic = on.acyclic;
-          text = second.text;
-          passes = second.passes;
-          stimulus = stimulus.0;
-          reads = stimulus.1;
-          trace = written_well (Some (run_turns (ports_of on.machine) words on.timing net stimulus.0)) (IsTrace net on.timing stimulus.0) second.others o well stimulus.2;
-        }
+      pub ran_well : (words : RunWords) (readings : List Reading) → AreHeld held readings → ExpectedRun words readings o → RanWell words o
+      unfolding AfterStimulus
+      ran_well words readings are after =
+          let Run : Placed → Stimulus → List Reading → Outcome → Type 0 = λ design stimulus. RunsOn words (record { placed = design; stimulus = stimulus }) in
+          let on = reached_placed words (λ design. AfterStimulus words.stimulus design.net (Run design)) readings are after in
+          let net = on.value.net in
+          let timing = on.value.timing in
+          let read = reached_file words.stimulus (λ text. IsStimulusOf text net) (Run on.value) on.others (λ text e. other_end o status.Stimulus well (ap (λ (p : Outcome). p.status) e.2) (λ e. cc)) on.are on.next in
+          record {
+            net = net;
+            timing = timing;
+            design = on.is.design;
+            acyclic = on.is.acyclic;
+            text = read.is.0;
+            passes = read.is.1;
+            stimulus = read.value;
+            reads = read.is.2;
+            trace = written_well (Some (run_turns (ports_of on.value.machine) words timing net read.value)) (IsTrace net timing read.value) read.others read.next;
+          }
 
+  module _ (laws : Laws) where
     -- files hold one design
     one_timing : (last : Option (List ℕ)) (net : Netlist) (given timing other : Timing) → TimingHeld last net given timing → TimingHeld last net given other → timing ≡ other
     one_timing None net given timing other is is_too = is ∙ sym is_too
@@ -411,7 +374,7 @@ later before after words image output net timing leaves design = record {
 
 module _ (laws : Laws) (before after : List ℕ → List ℕ) (compile run exec : RunWords) (image : List ℕ) (compiled ran outcome : Outcome) (design : AreOfOneDesign compile exec) (same : AreOfOneDesign run exec) (stimulus_same : run.stimulus ≡ exec.stimulus)
     (leaves : Leaves before after exec image compiled.output) (short : length compiled.output ≤ MAX_TEXT_BYTES) where
-  image_ends : CompiledWell before laws compile compiled → RanWell after laws run ran → (third : List Reading) → AreHeld after third → ExpectedExec exec image third outcome → IsEndOf ran.output outcome
+  image_ends : CompiledWell before compile compiled → RanWell after run ran → (third : List Reading) → AreHeld after third → ExpectedExec exec image third outcome → IsEndOf ran.output outcome
   image_ends first second third are expected =
       let there : DesignHeld after exec.netlist exec.last exec.timing first.net first.timing = later before after exec image compiled.output first.net first.timing leaves (renamed before compile exec first.net first.timing design first.design) in
       let here : DesignHeld after exec.netlist exec.last exec.timing second.net second.timing = renamed after run exec second.net second.timing same second.design in
@@ -430,4 +393,4 @@ module _ (laws : Laws) (before after : List ℕ → List ℕ) (compile run exec 
   pub sequel_ends : (first second third : List Reading) → ExpectedLayout sheet.Image compile first compiled → AreHeld before first → compiled.status ≡ status.Done → ExpectedRun run second ran → AreHeld after second → ran.status ≡ status.Done
       → AreHeld after third → ExpectedExec exec image third outcome → IsEndOf ran.output outcome
   sequel_ends first second third compiles held_first well runs held_second well_too are expected =
-      image_ends (compiled_well before laws compile first compiled held_first well compiles) (ran_well after laws run second ran held_second well_too runs) third are expected
+      image_ends (compiled_well before compiled well laws compile first held_first compiles) (ran_well after ran well_too laws run second held_second runs) third are expected

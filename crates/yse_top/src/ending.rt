@@ -25,6 +25,7 @@ pub fn end<O: Sink, E: Sink>(out: &mut O, err: &mut E, output: Output) -> Status
     let mut output = output;
     let ending = ending_of(&output);
     let wrote = write_output(out, &mut output);
+    // A drop by hand saves 20 s of proof.
     drop(output);
     match wrote {
         Ok(()) => tell_ending(err, ending),

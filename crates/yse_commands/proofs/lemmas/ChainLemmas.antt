@@ -1,10 +1,12 @@
 -- What a chain of checks expects of what was read.
-use Rattle.std.proofs.Common.{refl, inl, inr, ℕ, Bool, List, [], Option, None, Result, Ok}
+use Rattle.std.proofs.Common.{◌≡◌, refl, sym, subst, inl, inr, ℕ, Bool, List, [], Option, None, Result, Ok, Err}
+use Rattle.std.specs.Result.{IsErr, IsErrAnd}
 use Rattle.crew_run.specs.declared.gate.Gate as gate
 use Rattle.edge_io.specs.declared.counts.FileCounts.{FileCounts}
 use Rattle.named_files.specs.Checks.{After, Refuses}
 use Rattle.named_files.specs.Outcome.{Outcome}
 use Rattle.named_files.specs.Readings.{Reading}
+use Rattle.named_files.specs.Refused.{refused_of}
 use Rattle.yse_commands.specs.declared.output.Output.{Output}
 use Rattle.refusal_lines.specs.declared.refusal.Refusal.{Refusal}
 use Rattle.yse_commands.specs.Refusals.{Follows, outcome_of}
@@ -28,3 +30,10 @@ module _ (names : Option (List ℕ → Bool)) (bytes : Option (List ℕ → List
   -- the gates were told nothing
   pub comes_silent : {G : Type 0} (p : gate.Ghosts G) (old new : FileCounts) (gates : List (Option G)) (result : Result Output Refusal) (Chain : List Reading → Outcome → Type 0) → Follows names bytes old new (outcome_of None result) Chain → Comes p names bytes old new gates gates result Chain
   comes_silent p old new gates result Chain follows = record { told = None; follows = follows; visits = refl }
+
+-- a refusal that `?` hands on
+pub handed_on : {names : Option (List ℕ → Bool)} {bytes : Option (List ℕ → List ℕ)} {old new : FileCounts} (why : Refusal) {Chain : List Reading → Outcome → Type 0} (answer : Result Output Refusal)
+    → IsErr answer × IsErrAnd answer (λ other. other ≡ why) → Follows names bytes old new (refused_of why) Chain → Follows names bytes old new (outcome_of None answer) Chain
+handed_on why (Ok output) is follows = absurd is.1
+handed_on {names} {bytes} {old} {new} why {Chain} (Err other) is follows =
+    subst (λ no. Follows names bytes old new (outcome_of None (Err no)) Chain) (sym is.1) follows

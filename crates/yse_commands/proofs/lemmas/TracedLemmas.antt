@@ -6,20 +6,16 @@ use Rattle.std.proofs.lemmas.Option.{none-some}
 use Rattle.limits.specs.declared.TheConstants.{MAX_TEXT_BYTES}
 use Rattle.edge_io.specs.Names.{OfTold}
 use Rattle.net_defs.specs.declared.homes.HomeChoice.{HomeChoice}
-use Rattle.fault_sim.specs.Faults.{all_faults}
 use Rattle.net_defs.specs.declared.faults.Fault.{Fault}
 use Rattle.net_defs.specs.declared.netlist.Netlist.{Netlist}
 use Rattle.net_defs.specs.declared.stimulus.Stimulus.{Stimulus}
 use Rattle.net_defs.specs.declared.timing.Timing.{Timing}
 use Rattle.net_defs.specs.Canonical.{canonical_text}
 use Rattle.net_defs.specs.Trace.{IsTrace}
-use Rattle.bench_read.specs.Reads as bench
 use Rattle.cmd_words.specs.declared.command.Command.{Command}
 use Rattle.cmd_words.specs.declared.command.Command.TheVariants as command
 use Rattle.cmd_words.specs.declared.command.RunWords.{RunWords}
-use Rattle.net_defs.specs.Valid.{input_count}
 use Rattle.stim_text.specs.declared.order.Order.{Order}
-use Rattle.stim_text.specs.Stimuli as stim
 use Rattle.image_defs.specs.declared.image.Image.{Image}
 use Rattle.machine_text.specs.declared.machine.Machine.{Machine}
 use Rattle.machine_text.specs.Machines.{default_machine, ports_of}
@@ -28,6 +24,7 @@ use Rattle.refusal_lines.specs.declared.status.Status.{Status}
 use Rattle.refusal_lines.specs.declared.status.Status.TheVariants as status
 use Rattle.named_files.specs.Checks.{After, AfterRead, AfterFile, Ends, Writes, WritesTold, text_of, IsFaultListOf, IsLanesOf, HasFewBits, HasFewLaneCells, HasFewSignals, IsMachineOf, IsNetlistOf, HasNoLoop, HasRoom, IsStimulusOf, HasFewCells, IsListOf, IsOrderOf, listing}
 use Rattle.named_files.specs.Designs.{Placed, Prepared}
+use Rattle.named_files.specs.declared.reading.Timed.{Timed}
 use Rattle.named_files.specs.Passing.{AfterPlaced, AfterPlacedOn, AfterReady, Continuation, placed}
 use Rattle.yse_commands.specs.Ends.{MayWrite}
 use Rattle.yse_commands.specs.Expected.{ExpectedOf}
@@ -131,36 +128,32 @@ module _ (bytes : Option (List ℕ → List ℕ)) (o : Outcome) (goes : o.told �
               by_test true f = never_both read o f
               by_test false f = never status.Limit (too_long_line file) (sym (refused_once (refusal status.Limit (too_long_line file)) o f)) (λ w. w)
 
-  -- the timing of a netlist
-  record ReachedTiming (words : RunWords) (net : Netlist) (Next : Timing → List Reading → Outcome → Type 0) : Type 0 where
-    timing : Timing
-    timing_is : IsTimingOfFile bytes words.last net words.timing timing
+  -- a value that such a call came to, what it is, and what comes of it
+  record Reached {X : Type 0} (Is : X → Type 0) (Next : Continuation X) : Type 0 where
+    value : X
+    is : Is value
     others : List Reading
-    are : AreAsTold bytes others
-    next : Next timing others o
+    told : AreAsTold bytes others
+    next : Next value others o
 
-  reached_timing : (words : RunWords) (net : Netlist) (Next : Timing → List Reading → Outcome → Type 0) (readings : List Reading) → AreAsTold bytes readings → AfterList words.last net words.timing Next readings o → ReachedTiming words net Next
+  -- what the text of a file passes as
+  abbrev IsOfFile : {X : Type 0} → List ℕ → (List ℕ → Result X Outcome → Type 0) → X → Type 0
+  IsOfFile file Check x = (text : List ℕ) × OfTold bytes file (λ told. text ≡ told) × Check text (Ok x)
+
+  reached_file : {X : Type 0} (file : List ℕ) (Check : List ℕ → Result X Outcome → Type 0) (Next : Continuation X) (readings : List Reading) → ((text : List ℕ) → Check text (Err o) → ⊥) → AreAsTold bytes readings
+      → AfterFile file (λ text. After (Check text) Next) readings o → Reached (IsOfFile file Check) Next
+  reached_file file Check Next readings unless are expected =
+      let first = gave file (λ text. After (Check text) Next) readings are expected in
+      let found = passed (Check first.text) Next first.others (unless first.text) first.next in
+      record { value = found.0; is = (first.text, first.told, found.1); others = first.others; told = first.are; next = found.2 }
+
+  -- the timing of a netlist
+  reached_timing : (last : Option (List ℕ)) (net : Netlist) (given : Timing) (Next : Continuation Timing) (readings : List Reading) → AreAsTold bytes readings → AfterList last net given Next readings o → Reached (IsTimingOfFile bytes last net given) Next
   unfolding AfterList
-  reached_timing words net Next readings are expected = by words.last refl expected
-    where
-      by : (last : Option (List ℕ)) → words.last ≡ last → AfterList last net words.timing Next readings o → ReachedTiming words net Next
-      by None is expected = record {
-        timing = words.timing;
-        timing_is = subst (λ l. IsTimingOfFile bytes l net words.timing words.timing) (sym is) refl;
-        others = readings;
-        are = are;
-        next = expected;
-      }
-      by (Some file) is expected =
-          let first = gave file (λ text. After (IsListOf text net) (λ listed. Next (listing words.timing listed))) readings are expected in
-          let list = passed (IsListOf first.text net) (λ listed. Next (listing words.timing listed)) first.others (λ e. never status.LastList _ e.2 (λ w. w)) first.next in
-          record {
-            timing = listing words.timing list.0;
-            timing_is = subst (λ l. IsTimingOfFile bytes l net words.timing (listing words.timing list.0)) (sym is) (first.text, list.0, first.told, list.1, refl);
-            others = first.others;
-            are = first.are;
-            next = list.2;
-          }
+  reached_timing None net given Next readings are expected = record { value = given; is = refl; others = readings; told = are; next = expected }
+  reached_timing (Some file) net given Next readings are expected =
+      let list = reached_file file (λ text. IsListOf text net) (λ listed. Next (listing given listed)) readings (λ text e. never status.LastList _ e.2 (λ w. w)) are expected in
+      record { value = listing given list.value; is = (list.is.0, list.value, list.is.1, list.is.2, refl); others = list.others; told = list.told; next = list.next }
 
   -- a design that fits
   reached_fit : (choice : HomeChoice) (net : Netlist) (machine : Machine) (timing : Timing) (Next : List Reading → Outcome → Type 0) (readings : List Reading) → AfterFit choice net machine timing Next readings o → Next readings o
@@ -169,153 +162,70 @@ module _ (bytes : Option (List ℕ → List ℕ)) (o : Outcome) (goes : o.told �
       (passed (HasRoom choice net machine timing) (λ fits. Next) readings (λ e. never status.Overfull _ e.4 (λ w. w)) order.2).2
 
   -- the stimulus of a netlist
-  record ReachedStimulus (words : RunWords) (net : Netlist) (End : Stimulus → List Reading → Outcome → Type 0) : Type 0 where
-    text : List ℕ
-    text_told : OfTold bytes words.stimulus (λ told. text ≡ told)
-    stimulus : Stimulus
-    reads : stim.Reads (input_count net) text stimulus
-    others : List Reading
-    told : AreAsTold bytes others
-    ends : End stimulus others o
+  abbrev IsStimulusIn : RunWords → Netlist → Stimulus → Type 0
+  IsStimulusIn words net = IsOfFile words.stimulus (λ text. IsStimulusOf text net)
 
-  reached_stimulus : (words : RunWords) (net : Netlist) (End : Stimulus → List Reading → Outcome → Type 0) (readings : List Reading) → AreAsTold bytes readings → AfterStimulus words.stimulus net End readings o → ReachedStimulus words net End
+  reached_stimulus : (words : RunWords) (net : Netlist) (End : Continuation Stimulus) (readings : List Reading) → AreAsTold bytes readings → AfterStimulus words.stimulus net End readings o → Reached (IsStimulusIn words net) End
   unfolding AfterStimulus
-  reached_stimulus words net End readings are expected =
-      let second = gave words.stimulus (λ text. After (IsStimulusOf text net) End) readings are expected in
-      let stimulus = passed (IsStimulusOf second.text net) End second.others (λ e. never status.Stimulus _ e.2 (λ w. w)) second.next in
-      record {
-        text = second.text;
-        text_told = second.told;
-        stimulus = stimulus.0;
-        reads = stimulus.1;
-        others = second.others;
-        told = second.are;
-        ends = stimulus.2;
-      }
-
-  of_files : (words : RunWords) (text : List ℕ) → OfTold bytes words.netlist (λ told. text ≡ told) → (net : Netlist) → bench.Reads text net → (End : Stimulus → List Reading → Outcome → Type 0) → (end : ReachedStimulus words net End) → AreOfFiles bytes words net end.stimulus
-  of_files words text told net reads End end = record {
-    netlist_text = text;
-    netlist_told = told;
-    netlist_reads = reads;
-    stimulus_text = end.text;
-    stimulus_told = end.text_told;
-    stimulus_reads = end.reads;
-  }
+  reached_stimulus words net End readings = reached_file words.stimulus (λ text. IsStimulusOf text net) End readings (λ text e. never status.Stimulus _ e.2 (λ w. w))
 
   -- the netlist and its timing
-  record ReachedNetlist (words : RunWords) (End : Netlist → Timing → List Reading → Outcome → Type 0) : Type 0 where
-    text : List ℕ
-    text_told : OfTold bytes words.netlist (λ told. text ≡ told)
-    net : Netlist
-    reads : bench.Reads text net
-    timing : Timing
-    timing_is : IsTimingOfFile bytes words.last net words.timing timing
-    others : List Reading
-    told : AreAsTold bytes others
-    ends : End net timing others o
+  abbrev IsNetlistIn : RunWords → Netlist → Type 0
+  IsNetlistIn words = IsOfFile words.netlist (λ text. IsNetlistOf text)
 
-  reached_netlist : (words : RunWords) (End : Netlist → Timing → List Reading → Outcome → Type 0) (readings : List Reading) → AreAsTold bytes readings → AfterNetlist words End readings o → ReachedNetlist words End
+  abbrev IsTimedIn : RunWords → Timed → Type 0
+  IsTimedIn words design = IsNetlistIn words design.net × IsTimingOfFile bytes words.last design.net words.timing design.timing
+
+  reached_netlist : (words : RunWords) (End : Netlist → Timing → List Reading → Outcome → Type 0) (readings : List Reading) → AreAsTold bytes readings → AfterNetlist words End readings o → Reached (IsTimedIn words) (λ design. End design.net design.timing)
   unfolding AfterNetlist
   reached_netlist words End readings are expected =
-      let Next : Netlist → List Reading → Outcome → Type 0 = λ net. AfterList words.last net words.timing (End net) in
-      let first = gave words.netlist (λ text. After (IsNetlistOf text) Next) readings are expected in
-      let netlist = passed (IsNetlistOf first.text) Next first.others (λ e. never status.Netlist _ e.2 (λ w. w)) first.next in
-      let list = reached_timing words netlist.0 (End netlist.0) first.others first.are netlist.2 in
-      record {
-        text = first.text;
-        text_told = first.told;
-        net = netlist.0;
-        reads = netlist.1;
-        timing = list.timing;
-        timing_is = list.timing_is;
-        others = list.others;
-        told = list.are;
-        ends = list.next;
-      }
+      let net = reached_file words.netlist (λ text. IsNetlistOf text) (λ net. AfterList words.last net words.timing (End net)) readings (λ text e. never status.Netlist _ e.2 (λ w. w)) are expected in
+      let list = reached_timing words.last net.value words.timing (End net.value) net.others net.told net.next in
+      record { value = record { net = net.value; timing = list.value }; is = (net.is, list.is); others = list.others; told = list.told; next = list.next }
+
+  of_files : (words : RunWords) (net : Netlist) (stimulus : Stimulus) → IsNetlistIn words net → IsStimulusIn words net stimulus → AreOfFiles bytes words net stimulus
+  of_files words net stimulus one other = record {
+    netlist_text = one.0;
+    netlist_told = one.1;
+    netlist_reads = one.2;
+    stimulus_text = other.0;
+    stimulus_told = other.1;
+    stimulus_reads = other.2;
+  }
 
   -- the machine
-  record ReachedMachine (words : RunWords) (Next : Machine → List Reading → Outcome → Type 0) : Type 0 where
-    machine : Machine
-    machine_is : IsMachineOfFile bytes words.machine machine
-    others : List Reading
-    told : AreAsTold bytes others
-    next : Next machine others o
-
-  reached_machine : (words : RunWords) (Next : Machine → List Reading → Outcome → Type 0) (readings : List Reading) → AreAsTold bytes readings → AfterMachine words.machine Next readings o → ReachedMachine words Next
+  reached_machine : (file : Option (List ℕ)) (Next : Continuation Machine) (readings : List Reading) → AreAsTold bytes readings → AfterMachine file Next readings o → Reached (IsMachineOfFile bytes file) Next
   unfolding AfterMachine
-  reached_machine words Next readings are expected = by words.machine refl expected
-    where
-      by : (file : Option (List ℕ)) → words.machine ≡ file → AfterMachine file Next readings o → ReachedMachine words Next
-      by None is expected = record { machine = default_machine; machine_is = subst (λ f. IsMachineOfFile bytes f default_machine) (sym is) refl; others = readings; told = are; next = expected }
-      by (Some file) is expected =
-          let first = gave file (λ text. After (IsMachineOf text) Next) readings are expected in
-          let machine = passed (IsMachineOf first.text) Next first.others (λ e. never status.Machine _ e.2 (λ w. w)) first.next in
-          record { machine = machine.0; machine_is = subst (λ f. IsMachineOfFile bytes f machine.0) (sym is) (first.text, first.told, machine.1); others = first.others; told = first.are; next = machine.2 }
+  reached_machine None Next readings are expected = record { value = default_machine; is = refl; others = readings; told = are; next = expected }
+  reached_machine (Some file) Next readings are expected = reached_file file (λ text. IsMachineOf text) Next readings (λ text e. never status.Machine _ e.2 (λ w. w)) are expected
 
   -- a design on the machine of the files
-  record ReachedPlaced (words : RunWords) (Next : Continuation Placed) : Type 0 where
-    machine : Machine
-    machine_is : IsMachineOfFile bytes words.machine machine
-    text : List ℕ
-    text_told : OfTold bytes words.netlist (λ told. text ≡ told)
-    net : Netlist
-    reads : bench.Reads text net
-    timing : Timing
-    timing_is : IsTimingOfFile bytes words.last net words.timing timing
-    others : List Reading
-    told : AreAsTold bytes others
-    next : Next (placed words machine net timing) others o
+  abbrev IsPlacedIn : RunWords → Placed → Type 0
+  IsPlacedIn words design = IsMachineOfFile bytes words.machine design.machine × IsTimedIn words (record { net = design.net; timing = design.timing })
 
-  reached_placed : (words : RunWords) (Next : Continuation Placed) (readings : List Reading) → AreAsTold bytes readings → AfterPlaced words Next readings o → ReachedPlaced words Next
+  reached_placed : (words : RunWords) (Next : Continuation Placed) (readings : List Reading) → AreAsTold bytes readings → AfterPlaced words Next readings o → Reached (IsPlacedIn words) Next
   reached_placed words Next readings are expected =
-      let first = reached_machine words (λ machine. AfterPlacedOn words machine Next) readings are expected in
-      let machine = first.machine in
+      let first = reached_machine words.machine (λ machine. AfterPlacedOn words machine Next) readings are expected in
+      let machine = first.value in
       let on = reached_netlist words (λ net timing. AfterFit words.homes net machine timing (Next (placed words machine net timing))) first.others first.told first.next in
-      record {
-        machine = machine;
-        machine_is = first.machine_is;
-        text = on.text;
-        text_told = on.text_told;
-        net = on.net;
-        reads = on.reads;
-        timing = on.timing;
-        timing_is = on.timing_is;
-        others = on.others;
-        told = on.told;
-        next = reached_fit words.homes on.net machine on.timing (Next (placed words machine on.net on.timing)) on.others on.ends;
-      }
+      let design = placed words machine on.value.net on.value.timing in
+      record { value = design; is = (first.is, on.is); others = on.others; told = on.told; next = reached_fit words.homes design.net machine design.timing (Next design) on.others on.next }
 
   -- such a design with the stimulus of the files
-  record ReachedReady (words : RunWords) (Next : Continuation Prepared) : Type 0 where
-    machine : Machine
-    machine_is : IsMachineOfFile bytes words.machine machine
-    net : Netlist
-    timing : Timing
-    timing_is : IsTimingOfFile bytes words.last net words.timing timing
-    stimulus : Stimulus
-    are : AreOfFiles bytes words net stimulus
-    others : List Reading
-    told : AreAsTold bytes others
-    next : Next (record { placed = placed words machine net timing; stimulus = stimulus }) others o
+  abbrev IsReadyIn : RunWords → Prepared → Type 0
+  IsReadyIn words ready = IsPlacedIn words ready.placed × AreOfFiles bytes words ready.placed.net ready.stimulus
 
-  reached_ready : (words : RunWords) (Next : Continuation Prepared) (readings : List Reading) → AreAsTold bytes readings → AfterReady words Next readings o → ReachedReady words Next
+  reached_ready : (words : RunWords) (Next : Continuation Prepared) (readings : List Reading) → AreAsTold bytes readings → AfterReady words Next readings o → Reached (IsReadyIn words) Next
   reached_ready words Next readings are expected =
       let Fed : Placed → Stimulus → List Reading → Outcome → Type 0 = λ design stimulus. Next (record { placed = design; stimulus = stimulus }) in
       let on = reached_placed words (λ design. AfterStimulus words.stimulus design.net (Fed design)) readings are expected in
-      let design = placed words on.machine on.net on.timing in
-      let end = reached_stimulus words on.net (Fed design) on.others on.told on.next in
+      let end = reached_stimulus words on.value.net (Fed on.value) on.others on.told on.next in
       record {
-        machine = on.machine;
-        machine_is = on.machine_is;
-        net = on.net;
-        timing = on.timing;
-        timing_is = on.timing_is;
-        stimulus = end.stimulus;
-        are = of_files words on.text on.text_told on.net on.reads (Fed design) end;
+        value = record { placed = on.value; stimulus = end.value };
+        is = (on.is, of_files words on.value.net end.value on.is.1.0 end.is);
         others = end.others;
         told = end.told;
-        next = end.ends;
+        next = end.next;
       }
 
   -- ---- the end of an order
@@ -339,25 +249,27 @@ module _ (bytes : Option (List ℕ → List ℕ)) (o : Outcome) (goes : o.told �
       let end = wrote None (IsTrace design.net design.timing stimulus) readings expected in
       ((λ well. end.0), end.1)
   ends_say (Some file) words design stimulus readings are expected =
-      let first = gave file (λ text. After (IsOrderOf text design.machine) (EndsAfter words design stimulus)) readings are expected in
-      let order = passed (IsOrderOf first.text design.machine) (EndsAfter words design stimulus) first.others (λ e. never status.OrderText _ e.2 (λ w. w)) first.next in
-      ordered words design stimulus order.0 first.others order.2
+      let order = reached_file file (λ text. IsOrderOf text design.machine) (EndsAfter words design stimulus) readings (λ text e. never status.OrderText _ e.2 (λ w. w)) are expected in
+      ordered words design stimulus order.value order.others order.next
 
   -- ---- commands: what the output is, and of which turns the gates are told
 
   run_says : (words : RunWords) (readings : List Reading) → AreAsTold bytes readings → ExpectedRun words readings o → IsTraceOfFiles bytes o.output words × AreTurnsOfFiles bytes words o.told × (o.status ≡ status.Done)
   run_says words readings are expected =
       let end = reached_ready words (RunsOn words) readings are expected in
-      let ports = ports_of end.machine in
-      let ran = wrote (Some (run_turns ports words end.timing end.net end.stimulus)) (IsTrace end.net end.timing end.stimulus) end.others end.next in (
-        record { net = end.net; stimulus = end.stimulus; are = end.are; timing = end.timing; timing_is = end.timing_is; trace = ran.0 },
+      let design = end.value.placed in
+      let stimulus = end.value.stimulus in
+      let (machine_is, timed) = end.is.0 in
+      let ports = ports_of design.machine in
+      let ran = wrote (Some (run_turns ports words design.timing design.net stimulus)) (IsTrace design.net design.timing stimulus) end.others end.next in (
+        record { net = design.net; stimulus = stimulus; are = end.is.1; timing = design.timing; timing_is = timed.1; trace = ran.0 },
         record {
-          machine = end.machine;
-          machine_is = end.machine_is;
-          net = end.net;
-          stimulus = end.stimulus;
-          are = end.are;
-          turns = same_turns bytes words end.net end.timing ports end.stimulus o.told end.timing_is ran.1;
+          machine = design.machine;
+          machine_is = machine_is;
+          net = design.net;
+          stimulus = stimulus;
+          are = end.is.1;
+          turns = same_turns bytes words design.net design.timing ports stimulus o.told timed.1 ran.1;
         },
         ran.2,
       )
@@ -365,54 +277,45 @@ module _ (bytes : Option (List ℕ → List ℕ)) (o : Outcome) (goes : o.told �
   order_says : (words : RunWords) (readings : List Reading) → AreAsTold bytes readings → ExpectedOrder words readings o → (o.status ≡ status.Done → IsTraceOfFiles bytes o.output words) × (o.told ≡ None)
   order_says words readings are expected =
       let end = reached_ready words (OrdersOn words) readings are expected in
-      let design = placed words end.machine end.net end.timing in
-      let few = passed (HasFewCells end.net end.stimulus) (λ few. EndsBy words.order words design end.stimulus) end.others (λ e. never status.Limit _ e.1 (λ w. w)) end.next in
-      let ends = ends_say words.order words design end.stimulus end.others end.told few.2 in
-      ((λ well. record { net = end.net; stimulus = end.stimulus; are = end.are; timing = end.timing; timing_is = end.timing_is; trace = ends.0 well }), ends.1)
+      let design = end.value.placed in
+      let stimulus = end.value.stimulus in
+      let few = passed (HasFewCells design.net stimulus) (λ few. EndsBy words.order words design stimulus) end.others (λ e. never status.Limit _ e.1 (λ w. w)) end.next in
+      let ends = ends_say words.order words design stimulus end.others end.told few.2 in
+      ((λ well. record { net = design.net; stimulus = stimulus; are = end.is.1; timing = design.timing; timing_is = end.is.0.1.1; trace = ends.0 well }), ends.1)
 
   refer_says : (words : RunWords) (readings : List Reading) → AreAsTold bytes readings → ExpectedRefer words readings o → IsTraceOfFiles bytes o.output words × (o.told ≡ None)
   refer_says words readings are expected =
       let on = reached_netlist words (AfterLoop words.stimulus) readings are expected in
-      let net = on.net in
-      let timing = on.timing in
-      let order = passed (HasNoLoop net timing) (λ passed. AfterStimulus words.stimulus net (KeepsTrace net timing)) on.others (λ e. never status.Loop _ e.2 (λ w. w)) on.ends in
+      let net = on.value.net in
+      let timing = on.value.timing in
+      let order = passed (HasNoLoop net timing) (λ passed. AfterStimulus words.stimulus net (KeepsTrace net timing)) on.others (λ e. never status.Loop _ e.2 (λ w. w)) on.next in
       let end = reached_stimulus words net (KeepsTrace net timing) on.others on.told order.2 in
-      let few = passed (HasFewCells net end.stimulus) (λ few. WritesTrace net timing end.stimulus) end.others (λ e. never status.Limit _ e.1 (λ w. w)) end.ends in
-      let kept = wrote None (IsTrace net timing end.stimulus) end.others few.2 in (
-        record {
-          net = net;
-          stimulus = end.stimulus;
-          are = of_files words on.text on.text_told net on.reads (KeepsTrace net timing) end;
-          timing = timing;
-          timing_is = on.timing_is;
-          trace = kept.0;
-        },
-        kept.1,
-      )
+      let few = passed (HasFewCells net end.value) (λ few. WritesTrace net timing end.value) end.others (λ e. never status.Limit _ e.1 (λ w. w)) end.next in
+      let kept = wrote None (IsTrace net timing end.value) end.others few.2 in
+      (record { net = net; stimulus = end.value; are = of_files words net end.value on.is.0 end.is; timing = timing; timing_is = on.is.1; trace = kept.0 }, kept.1)
 
   exec_says : (words : RunWords) (name : List ℕ) (readings : List Reading) → AreAsTold bytes readings → ExpectedExec words name readings o → IsTraceOfFiles bytes o.output words × AreTurnsOfImage bytes words name o.told × (o.status ≡ status.Done)
   unfolding AfterImage
   exec_says words name readings are expected =
       let on = reached_netlist words (OnImage words name) readings are expected in
-      let net = on.net in
-      let timing = on.timing in
+      let net = on.value.net in
+      let timing = on.value.timing in
       let Run : Image → List Reading → Outcome → Type 0 = RunsImage words net timing in
-      let order = passed (HasNoLoop net timing) (λ passed. AfterImage name net timing Run) on.others (λ e. never status.Loop _ e.2 (λ w. w)) on.ends in
-      let second = gave name (λ text. After (IsImageFileOf text) (λ file. AfterMatch net timing file Run)) on.others on.told order.2 in
-      let file = passed (IsImageFileOf second.text) (λ file. AfterMatch net timing file Run) second.others (λ e. never status.ImageText _ e.2 (λ w. w)) second.next in
-      let accepted = passed (IsAccepted net timing file.0) (λ accepted. Run file.0.image) second.others (λ e. never status.ImageMatch _ e.5 (λ w. w)) file.2 in
-      let ports = length file.0.image.ports in
-      let end = reached_stimulus words net (RunsTo ports words timing net) second.others second.are accepted.2 in
-      let files = of_files words on.text on.text_told net on.reads (RunsTo ports words timing net) end in
-      let ran = wrote (Some (run_turns ports words timing net end.stimulus)) (IsTrace net timing end.stimulus) end.others end.ends in (
-        record { net = net; stimulus = end.stimulus; are = files; timing = timing; timing_is = on.timing_is; trace = ran.0 },
+      let order = passed (HasNoLoop net timing) (λ passed. AfterImage name net timing Run) on.others (λ e. never status.Loop _ e.2 (λ w. w)) on.next in
+      let file = reached_file name (λ text. IsImageFileOf text) (λ file. AfterMatch net timing file Run) on.others (λ text e. never status.ImageText _ e.2 (λ w. w)) on.told order.2 in
+      let accepted = passed (IsAccepted net timing file.value) (λ accepted. Run file.value.image) file.others (λ e. never status.ImageMatch _ e.5 (λ w. w)) file.next in
+      let ports = length file.value.image.ports in
+      let end = reached_stimulus words net (RunsTo ports words timing net) file.others file.told accepted.2 in
+      let files = of_files words net end.value on.is.0 end.is in
+      let ran = wrote (Some (run_turns ports words timing net end.value)) (IsTrace net timing end.value) end.others end.next in (
+        record { net = net; stimulus = end.value; are = files; timing = timing; timing_is = on.is.1; trace = ran.0 },
         record {
-          image = file.0;
-          image_is = (second.text, second.told, file.1);
+          image = file.value;
+          image_is = file.is;
           net = net;
-          stimulus = end.stimulus;
+          stimulus = end.value;
           are = files;
-          turns = same_turns bytes words net timing ports end.stimulus o.told on.timing_is ran.1;
+          turns = same_turns bytes words net timing ports end.value o.told on.is.1 ran.1;
         },
         ran.2,
       )
@@ -421,32 +324,32 @@ module _ (bytes : Option (List ℕ → List ℕ)) (o : Outcome) (goes : o.told �
   unfolding AfterLanes
   pack_says words readings are expected =
       let on = reached_placed words (Packs words) readings are expected in
-      let net = on.net in
-      let timing = on.timing in
-      let design = placed words on.machine net timing in
+      let design = on.value in
+      let net = design.net in
+      let timing = design.timing in
+      let (machine_is, timed) = on.is in
       let bits = passed (HasFewBits net) (λ few. AfterLanes words.stimulus net (KeepsLanes words design)) on.others (λ e. never status.Limit _ e.1 (λ w. w)) on.next in
-      let second = gave words.stimulus (λ text. After (IsLanesOf text net) (KeepsLanes words design)) on.others on.told bits.2 in
-      let read = passed (IsLanesOf second.text net) (KeepsLanes words design) second.others (λ e. never status.Stimulus _ e.2 (λ w. w)) second.next in
-      let lanes = read.0 in
+      let read = reached_file words.stimulus (λ text. IsLanesOf text net) (KeepsLanes words design) on.others (λ text e. never status.Stimulus _ e.2 (λ w. w)) on.told bits.2 in
+      let lanes = read.value in
       let turns = Some (lanes_turns words design lanes) in
-      let few = passed (HasFewLaneCells net lanes) (λ few. Ends (WritesTold turns (AreLaneTraces net timing lanes))) second.others (λ e. never status.Limit _ e.1 (λ w. w)) read.2 in
-      let ran = wrote turns (AreLaneTraces net timing lanes) second.others few.2 in
+      let few = passed (HasFewLaneCells net lanes) (λ few. Ends (WritesTold turns (AreLaneTraces net timing lanes))) read.others (λ e. never status.Limit _ e.1 (λ w. w)) read.next in
+      let ran = wrote turns (AreLaneTraces net timing lanes) read.others few.2 in
       let files : AreLanesOfFiles bytes words net lanes = record {
-        netlist_text = on.text;
-        netlist_told = on.text_told;
-        netlist_reads = on.reads;
-        lanes_text = second.text;
-        lanes_told = second.told;
-        lanes_read = read.1;
+        netlist_text = timed.0.0;
+        netlist_told = timed.0.1;
+        netlist_reads = timed.0.2;
+        lanes_text = read.is.0;
+        lanes_told = read.is.1;
+        lanes_read = read.is.2;
       } in (
-        record { net = net; lanes = lanes; are = files; timing = timing; timing_is = on.timing_is; traces = ran.0 },
+        record { net = net; lanes = lanes; are = files; timing = timing; timing_is = timed.1; traces = ran.0 },
         record {
-          machine = on.machine;
-          machine_is = on.machine_is;
+          machine = design.machine;
+          machine_is = machine_is;
           net = net;
           lanes = lanes;
           are = files;
-          turns = same_lanes bytes words on.machine net timing lanes o.told on.timing_is ran.1;
+          turns = same_lanes bytes words design.machine net timing lanes o.told timed.1 ran.1;
         },
         ran.2,
       )
@@ -455,67 +358,44 @@ module _ (bytes : Option (List ℕ → List ℕ)) (o : Outcome) (goes : o.told �
   layout_says asked words readings are expected =
       let IsSheet : Placed → List ℕ → Type 0 = λ design. IsSheetOf asked words.homes design.net design.machine design.timing in
       let on = reached_placed words (λ design. Ends (Writes (IsSheet design))) readings are expected in
-      (wrote None (IsSheet (placed words on.machine on.net on.timing)) on.others on.next).1
+      (wrote None (IsSheet on.value) on.others on.next).1
 
   show_says : (file : List ℕ) (readings : List Reading) → AreAsTold bytes readings → ExpectedShow file readings o → o.told ≡ None
   unfolding ExpectedShow
   show_says file readings are expected =
       let IsText : Netlist → List ℕ → Type 0 = λ net output. output ≡ canonical_text net in
-      let first = gave file (λ text. After (IsNetlistOf text) (λ net. Ends (Writes (IsText net)))) readings are expected in
-      let net = passed (IsNetlistOf first.text) (λ net. Ends (Writes (IsText net))) first.others (λ e. never status.Netlist _ e.2 (λ w. w)) first.next in
-      (wrote None (IsText net.0) first.others net.2).1
+      let net = reached_file file (λ text. IsNetlistOf text) (λ net. Ends (Writes (IsText net))) readings (λ text e. never status.Netlist _ e.2 (λ w. w)) are expected in
+      (wrote None (IsText net.value) net.others net.next).1
 
   -- the stuck faults of a list
-  record ReachedFaults (words : RunWords) (net : Netlist) (Next : Option (List Fault) → List Reading → Outcome → Type 0) : Type 0 where
-    listed : Option (List Fault)
-    faults_are : AreFaultsOfFile bytes words.faults net (listed_or_all net listed)
-    others : List Reading
-    are : AreAsTold bytes others
-    next : Next listed others o
-
-  reached_faults : (words : RunWords) (net : Netlist) (Next : Option (List Fault) → List Reading → Outcome → Type 0) (readings : List Reading) → AreAsTold bytes readings → AfterFaultList words.faults net Next readings o → ReachedFaults words net Next
+  reached_faults : (file : Option (List ℕ)) (net : Netlist) (Next : Continuation (Option (List Fault))) (readings : List Reading) → AreAsTold bytes readings → AfterFaultList file net Next readings o
+      → Reached (λ listed. AreFaultsOfFile bytes file net (listed_or_all net listed)) Next
   unfolding AfterFaultList
-  reached_faults words net Next readings are expected = by words.faults refl expected
-    where
-      by : (file : Option (List ℕ)) → words.faults ≡ file → AfterFaultList file net Next readings o → ReachedFaults words net Next
-      by None is expected = record {
-        listed = None;
-        faults_are = subst (λ f. AreFaultsOfFile bytes f net (all_faults net)) (sym is) refl;
-        others = readings;
-        are = are;
-        next = expected;
-      }
-      by (Some file) is expected =
-          let first = gave file (λ text. After (IsFaultListOf text net) (λ faults. Next (Some faults))) readings are expected in
-          let list = passed (IsFaultListOf first.text net) (λ faults. Next (Some faults)) first.others (λ e. never status.FaultList _ e.2 (λ w. w)) first.next in
-          record {
-            listed = Some list.0;
-            faults_are = subst (λ f. AreFaultsOfFile bytes f net list.0) (sym is) (first.text, first.told, list.1);
-            others = first.others;
-            are = first.are;
-            next = list.2;
-          }
+  reached_faults None net Next readings are expected = record { value = None; is = refl; others = readings; told = are; next = expected }
+  reached_faults (Some file) net Next readings are expected =
+      let list = reached_file file (λ text. IsFaultListOf text net) (λ faults. Next (Some faults)) readings (λ text e. never status.FaultList _ e.2 (λ w. w)) are expected in
+      record { value = Some list.value; is = list.is; others = list.others; told = list.told; next = list.next }
 
   fault_says : (words : RunWords) (readings : List Reading) → AreAsTold bytes readings → ExpectedFault words readings o → IsFaultListOfFiles bytes o.output words × (o.told ≡ None)
   fault_says words readings are expected =
       let on = reached_netlist words (FaultsIn words) readings are expected in
-      let net = on.net in
-      let timing = on.timing in
+      let net = on.value.net in
+      let timing = on.value.timing in
       let Then : List Reading → Outcome → Type 0 = AfterFaultList words.faults net (AfterListed words.stimulus net timing) in
-      let order = passed (HasNoLoop net timing) (λ passed. After (HasFewSignals net) (λ few. Then)) on.others (λ e. never status.Loop _ e.2 (λ w. w)) on.ends in
+      let order = passed (HasNoLoop net timing) (λ passed. After (HasFewSignals net) (λ few. Then)) on.others (λ e. never status.Loop _ e.2 (λ w. w)) on.next in
       let few = passed (HasFewSignals net) (λ few. Then) on.others (λ e. never status.Limit _ e.1 (λ w. w)) order.2 in
-      let list = reached_faults words net (AfterListed words.stimulus net timing) on.others on.told few.2 in
-      let faults = listed_or_all net list.listed in
-      let end = reached_stimulus words net (ListsFaults net timing faults) list.others list.are list.next in
-      let listing = wrote None (IsFaultList net timing end.stimulus faults) end.others end.ends in (
+      let list = reached_faults words.faults net (AfterListed words.stimulus net timing) on.others on.told few.2 in
+      let faults = listed_or_all net list.value in
+      let end = reached_stimulus words net (ListsFaults net timing faults) list.others list.told list.next in
+      let listing = wrote None (IsFaultList net timing end.value faults) end.others end.next in (
         record {
           net = net;
-          stimulus = end.stimulus;
-          are = of_files words on.text on.text_told net on.reads (ListsFaults net timing faults) end;
+          stimulus = end.value;
+          are = of_files words net end.value on.is.0 end.is;
           timing = timing;
-          timing_is = on.timing_is;
+          timing_is = on.is.1;
           faults = faults;
-          faults_are = list.faults_are;
+          faults_are = list.is;
           list = listing.0;
         },
         listing.1,
@@ -524,21 +404,12 @@ module _ (bytes : Option (List ℕ → List ℕ)) (o : Outcome) (goes : o.told �
   cover_says : (words : RunWords) (readings : List Reading) → AreAsTold bytes readings → ExpectedCover words readings o → IsCoverageOfFiles bytes o.output words × (o.told ≡ None)
   cover_says words readings are expected =
       let on = reached_netlist words (CoversIn words.stimulus) readings are expected in
-      let net = on.net in
-      let timing = on.timing in
-      let order = passed (HasNoLoop net timing) (λ passed. AfterStimulus words.stimulus net (WritesCoverage net timing)) on.others (λ e. never status.Loop _ e.2 (λ w. w)) on.ends in
+      let net = on.value.net in
+      let timing = on.value.timing in
+      let order = passed (HasNoLoop net timing) (λ passed. AfterStimulus words.stimulus net (WritesCoverage net timing)) on.others (λ e. never status.Loop _ e.2 (λ w. w)) on.next in
       let end = reached_stimulus words net (WritesCoverage net timing) on.others on.told order.2 in
-      let listing = wrote None (IsCoverage net timing end.stimulus) end.others end.ends in (
-        record {
-          net = net;
-          stimulus = end.stimulus;
-          are = of_files words on.text on.text_told net on.reads (WritesCoverage net timing) end;
-          timing = timing;
-          timing_is = on.timing_is;
-          coverage = listing.0;
-        },
-        listing.1,
-      )
+      let listing = wrote None (IsCoverage net timing end.value) end.others end.next in
+      (record { net = net; stimulus = end.value; are = of_files words net end.value on.is.0 end.is; timing = timing; timing_is = on.is.1; coverage = listing.0 }, listing.1)
 
   pub command_traced : (command : Command) (readings : List Reading) → o.status ≡ status.Done → AreAsTold bytes readings → ExpectedOf command readings o → IsOutputOfFiles bytes o.output (Some command)
   command_traced (command.Run words) readings well are expected = (run_says words readings are expected).0

@@ -27,17 +27,10 @@ returns-clause-summary g c =
     summary_shown c.args._gates_count c.args._cycles c.args.design.now c.requires.design c.as_slice.result.now text
     (subst (λ (rows : List CellRow). AreShown c.args.design.now.compiled.image c.args.design.now.rows (cycle_count c.args.design.now.rows) rows) (sym c.as_slice.ensures) c.in_ok-rows.ensures.rows) told) c.summed_up.ensures
 
-pub returns-in_err-rows-clause-summary : goal.returns-in_err-rows-clause-summary
-returns-in_err-rows-clause-summary g c = let p = err_from_is_err_and c.from_residual.result c.from_residual.ensures.1 in rw p.1 tt
-
-pub returns-in_err-rows-clause-visits : goal.returns-in_err-rows-clause-visits
-returns-in_err-rows-clause-visits g c = let p = err_from_is_err_and c.from_residual.result c.from_residual.ensures.1 in rw p.1 tt
-
-pub returns-in_err-rows-clause-refused : goal.returns-in_err-rows-clause-refused
-returns-in_err-rows-clause-refused g c = let p = err_from_is_err_and c.from_residual.result c.from_residual.ensures.1 in rw p.1 (inl c.in_err-rows.ensures.refused)
-
-pub returns-in_err-rows-clause-kept : goal.returns-in_err-rows-clause-kept
-returns-in_err-rows-clause-kept g c = c.in_err-rows.ensures.kept
+pub returns-in_err-rows : goal.returns-in_err-rows
+returns-in_err-rows g c =
+    let p = err_from_is_err_and c.from_residual.result c.from_residual.ensures.1 in
+    rw p.1 (record { summary = tt; visits = tt; refused = inl c.in_err-rows.ensures.refused; kept = c.in_err-rows.ensures.kept })
 
 pub run_machine-requires-clause-some_workers : goal.run_machine-requires-clause-some_workers
 run_machine-requires-clause-some_workers g c κs within = c.requires.some_workers

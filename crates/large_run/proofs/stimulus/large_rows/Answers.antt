@@ -19,11 +19,11 @@ turns-preserved c =
       rows = list_more [] c.turns.rows _ (λ n. drawn_row (draw c.args.state (8 * n))) _ c.turns._c c.turns.invariant.rows c.in_ok-push.ensures.ok (rw (c.in_ok-values.ensures.values, c.turns.invariant.state) refl);
     }
 
-pub returns-clause-stimulus : goal.returns-clause-stimulus
-returns-clause-stimulus c = rows_are c.args.state c.args.cycles c.turns._c c.turns.rows c.turns.invariant.rows (omega arith)
-
-pub returns-clause-valid : goal.returns-clause-valid
-returns-clause-valid c = rw (rows_are c.args.state c.args.cycles c.turns._c c.turns.rows c.turns.invariant.rows (omega arith)) (valid_rows c.args.state c.args.cycles c.requires.cycles)
-
-pub returns-clause-cycles : goal.returns-clause-cycles
-returns-clause-cycles c = subst (λ (stimulus : Stimulus). cycle_count stimulus ≡ c.args.cycles) (sym (rows_are c.args.state c.args.cycles c.turns._c c.turns.rows c.turns.invariant.rows (omega arith))) (cycles_large c.args.state c.args.cycles)
+pub returns : goal.returns
+returns c =
+    let are = rows_are c.args.state c.args.cycles c.turns._c c.turns.rows c.turns.invariant.rows (omega arith) in
+    record {
+      stimulus = are;
+      valid = rw are (valid_rows c.args.state c.args.cycles c.requires.cycles);
+      cycles = subst (λ (stimulus : Stimulus). cycle_count stimulus ≡ c.args.cycles) (sym are) (cycles_large c.args.state c.args.cycles);
+    }

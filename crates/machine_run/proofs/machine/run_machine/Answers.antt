@@ -11,8 +11,8 @@ run_rows-requires-clause-room g c κs within =
     subst (AreWide (cycle_count c.args.stim.now) (length (printed_sources c.args.image.now))) (sym c.as_mut_slice-room.ensures.value)
     (subst (λ n. AreWide n (length (printed_sources c.args.image.now)) c.in_ok-rows.rows.rows) c.cycles-cycles.ensures c.in_ok-rows.ensures)
 
-pub returns-in-Ok-clause-rows : goal.returns-in-Ok-clause-rows
-returns-in-Ok-clause-rows g c =
+pub returns-clause-rows : goal.returns-clause-rows
+returns-clause-rows g c =
     subst (AreShown c.args.image.now c.args.stim.now (cycle_count c.args.stim.now))
-    (sym (take_at c.run_rows.new.rows (drop (length c.run_rows.new.rows) c.in_ok-rows.rows.rows) (length c.in_ok-rows.rows.rows) (c.in-Ok.ensures.rows.cycles_are ∙ sym (c.in_ok-rows.ensures.cycles_are ∙ c.cycles-cycles.ensures))))
-    c.in-Ok.ensures.rows
+    (sym (take_at c.run_rows.new.rows (drop (length c.run_rows.new.rows) c.in_ok-rows.rows.rows) (length c.in_ok-rows.rows.rows) (c.in_ok-run_rows.ensures.rows.cycles_are ∙ sym (c.in_ok-rows.ensures.cycles_are ∙ c.cycles-cycles.ensures))))
+    c.in_ok-run_rows.ensures.rows

@@ -11,16 +11,15 @@ use Rattle.order_run.proofs.rows.cells.Goals as goal
 pub unreachable-requires : goal.unreachable-requires
 unreachable-requires c = c.in-None.ensures (c.requires.host _ (slice_get-get_or c.args.seats.now c.args.p c.index-seats-p.result c.requires.there))
 
-pub cells-requires-clause-kept : goal.cells-requires-clause-kept
-cells-requires-clause-kept c =
+pub cells-requires : goal.cells-requires
+cells-requires c =
     let first = c.requires.all _ (slice_get-get_or c.args.seats.now c.args.p c.index-seats-p.result c.requires.there) in
-    omega (arith, c.in-Some.ensures.first_row, first, c.requires.some)
-
-pub cells-requires-clause-done : goal.cells-requires-clause-done
-cells-requires-clause-done c =
-    subst (λ rows. c.args.cycle ≤ rows)
-    (sym (ap₂ (λ (turn units : ℕ). (turn - 1) / units) c.in-Some.ensures.turn (ap (λ (image : Image). image.units) c.in-Some.ensures.image)))
-    (c.requires.done _ (slice_get-get_or c.args.seats.now c.args.p c.index-seats-p.result c.requires.there))
+    record {
+      kept = omega (arith, c.in-Some.ensures.first_row, first, c.requires.some);
+      done = subst (λ rows. c.args.cycle ≤ rows)
+          (sym (ap₂ (λ (turn units : ℕ). (turn - 1) / units) c.in-Some.ensures.turn (ap (λ (image : Image). image.units) c.in-Some.ensures.image)))
+          (c.requires.done _ (slice_get-get_or c.args.seats.now c.args.p c.index-seats-p.result c.requires.there));
+    }
 
 pub returns : goal.returns
 returns c seat at =

@@ -1,4 +1,3 @@
-use Rattle.std.proofs.lemmas.Result.{err_from_is_err_and}
 use Rattle.list_laws.proofs.Ranges.{replicate_read}
 use Rattle.std.proofs.Common.{◌≡◌, ◌∙◌, ◌+◌, ◌-◌, ◌<◌, ◌≤◌, length, get_or, refl, sym, ap, arith, Some}
 use Rattle.std.proofs.lemmas.List.{length-replicate, length-set}
@@ -37,12 +36,6 @@ memories-preserved c =
       homes_whole = refl;
     })))
 
-pub returns-in_err-counts-clause-shape : goal.returns-in_err-counts-clause-shape
-returns-in_err-counts-clause-shape c = let p = err_from_is_err_and c.from_residual.result c.from_residual.ensures.1 in rw p.1 tt
-
-pub returns-in_err-counts-clause-counts : goal.returns-in_err-counts-clause-counts
-returns-in_err-counts-clause-counts c = let p = err_from_is_err_and c.from_residual.result c.from_residual.ensures.1 in rw p.1 tt
-
 pub memories-init : goal.memories-init
 memories-init c = record {
   shape = ap length c.in_ok-counts.ensures ∙ length-replicate c.args.homes.now.array 0;
@@ -67,14 +60,14 @@ bounds-as_slice-a c =
     let at = c.requires.homes.memories c.memories.m (omega (arith, ap length c.as_slice-blocks.ensures)) in
     rw (c.as_slice.ensures, c.as_slice-ports.ensures) (omega (arith, at.0, at.1, c.memories.invariant.shape))
 
-pub returns-clause-shape : goal.returns-clause-shape
-returns-clause-shape c = c.memories.invariant.shape
-
-pub returns-clause-counts : goal.returns-clause-counts
-returns-clause-counts c a low =
+pub returns : goal.returns
+returns c =
     let all : c.memories.m ≡ length c.args.nodes.now.blocks = omega (arith, ap length c.as_slice-blocks.ensures) in
-    c.memories.invariant.counts a (rw c.memories.invariant.shape low)
-    ∙ ap (λ m. bits_before c.args.nodes.now c.args.homes.now.blocks m (c.args.homes.now.logic + a)) all
+    record {
+      shape = c.memories.invariant.shape;
+      counts = λ a low. c.memories.invariant.counts a (rw c.memories.invariant.shape low)
+          ∙ ap (λ m. bits_before c.args.nodes.now c.args.homes.now.blocks m (c.args.homes.now.logic + a)) all;
+    }
 
 pub overflow_add-bits : goal.overflow_add-bits
 overflow_add-bits c =

@@ -2,7 +2,6 @@ use Rattle.std.proofs.Common.{◌∙◌, ◌+◌, ◌<◌, length, get_or, refl,
 use Rattle.std.specs.Prelude.{◌==◌}
 use Rattle.std.specs.List.{count_by}
 use Rattle.list_laws.proofs.Ranges.{replicate_read}
-use Rattle.std.proofs.lemmas.Result.{err_from_is_err_and}
 use Rattle.std.proofs.lemmas.List.{length-replicate, length-set, length-take, take_all}
 use Rattle.std.proofs.lemmas.List.Sums.{count_by-le-length}
 use Rattle.plan_defs.specs.Homes.{ports_of}
@@ -10,10 +9,16 @@ use Rattle.plan_defs.proofs.lemmas.PortLemmas.{home_port}
 use Rattle.plan_text.proofs.FigureLemmas.{raised}
 use Rattle.plan_text.proofs.figures.item_counts.Goals as goal
 
-pub raise-requires-clause-within : goal.raise-requires-clause-within
-raise-requires-clause-within c =
-    let low : get_or c.args.homes.now.items c.items.i 0 < ports_of c.args.homes.now = home_port c.args.nodes.now c.args.homes.now c.items.i c.requires.nodes c.requires.homes (omega arith) in
-    rw c.as_slice-ports.ensures (rw c.items.invariant.shape low)
+pub raise-requires : goal.raise-requires
+raise-requires c =
+    let port = get_or c.args.homes.now.items c.items.i 0 in
+    let low : port < ports_of c.args.homes.now = home_port c.args.nodes.now c.args.homes.now c.items.i c.requires.nodes c.requires.homes (omega arith) in
+    let is = c.items.invariant.counts port (rw c.items.invariant.shape low) in
+    let most = count_by-le-length (λ home. home == port) (take c.items.i c.args.homes.now.items) in
+    rw c.as_slice-ports.ensures (record {
+      within = rw c.items.invariant.shape low;
+      small = omega (arith, is, most, length-take c.items.i c.args.homes.now.items, c.requires.nodes.few, c.requires.homes.items);
+    })
 
 pub items-preserved : goal.items-preserved
 items-preserved c =
@@ -26,12 +31,6 @@ items-preserved c =
       whole = refl;
     }))
 
-pub returns-in_err-counts-clause-shape : goal.returns-in_err-counts-clause-shape
-returns-in_err-counts-clause-shape c = let p = err_from_is_err_and c.from_residual.result c.from_residual.ensures.1 in rw p.1 tt
-
-pub returns-in_err-counts-clause-counts : goal.returns-in_err-counts-clause-counts
-returns-in_err-counts-clause-counts c = let p = err_from_is_err_and c.from_residual.result c.from_residual.ensures.1 in rw p.1 tt
-
 pub items-init : goal.items-init
 items-init c = record {
   shape = ap length c.in_ok-counts.ensures ∙ length-replicate (ports_of c.args.homes.now) 0;
@@ -42,18 +41,10 @@ items-init c = record {
 pub bounds-ports-i : goal.bounds-ports-i
 bounds-ports-i c = omega (arith, ap length c.as_slice-ports.ensures, c.requires.homes.items)
 
-pub returns-clause-shape : goal.returns-clause-shape
-returns-clause-shape c = c.items.invariant.shape
-
-pub returns-clause-counts : goal.returns-clause-counts
-returns-clause-counts c port low =
-    c.items.invariant.counts port (rw c.items.invariant.shape low)
-    ∙ ap (count_by (λ home. home == port)) (take_all c.items.i c.args.homes.now.items (omega (arith, c.requires.homes.items)))
-
-pub raise-requires-clause-small : goal.raise-requires-clause-small
-raise-requires-clause-small c =
-    let port = get_or c.args.homes.now.items c.items.i 0 in
-    let low : port < ports_of c.args.homes.now = home_port c.args.nodes.now c.args.homes.now c.items.i c.requires.nodes c.requires.homes (omega arith) in
-    let is = c.items.invariant.counts port (rw c.items.invariant.shape low) in
-    let most = count_by-le-length (λ home. home == port) (take c.items.i c.args.homes.now.items) in
-    rw c.as_slice-ports.ensures (omega (arith, is, most, length-take c.items.i c.args.homes.now.items, c.requires.nodes.few, c.requires.homes.items))
+pub returns : goal.returns
+returns c =
+    record {
+      shape = c.items.invariant.shape;
+      counts = λ port low. c.items.invariant.counts port (rw c.items.invariant.shape low)
+          ∙ ap (count_by (λ home. home == port)) (take_all c.items.i c.args.homes.now.items (omega (arith, c.requires.homes.items)));
+    }

@@ -1,27 +1,28 @@
 -- The stimulus, and the coverage.
 use Rattle.std.proofs.Common.{refl, inl, inr}
 use Rattle.yse_commands.specs.commands.Cover.{WritesCoverage}
-use Rattle.yse_commands.proofs.lemmas.ChainLemmas.{follows_here}
+use Rattle.yse_commands.proofs.lemmas.ChainLemmas.{follows_here, handed_on}
 use Rattle.yse_commands.proofs.PassingLemmas.{stimulus_on, stimulus_stops}
 use Rattle.yse_commands.proofs.cover.coverage_of.Goals as goal
 
-pub returns-in-Err-clause-expected : goal.returns-in-Err-clause-expected
-returns-in-Err-clause-expected g c =
+pub returns-in_err-stimulus-clause-expected : goal.returns-in_err-stimulus-clause-expected
+returns-in_err-stimulus-clause-expected g c =
     let net = c.args.design.now.net in
-    stimulus_stops _ _ c.args.words.now.stimulus net (WritesCoverage net c.args.timing.now) _ _ _ (rw c.as_bytes.ensures at c.in-Err.ensures.step)
+    handed_on _ c.from_residual.result c.from_residual.ensures
+    (stimulus_stops _ _ c.args.words.now.stimulus net (WritesCoverage net c.args.timing.now) _ _ _ (rw c.as_bytes.ensures at c.in_err-stimulus.ensures.step))
 
-pub returns-in-Ok-lines-clause-expected : goal.returns-in-Ok-lines-clause-expected
-returns-in-Ok-lines-clause-expected g c =
+pub returns-in-Ok-clause-expected : goal.returns-in-Ok-clause-expected
+returns-in-Ok-clause-expected g c =
     let net = c.args.design.now.net in
     let ends = WritesCoverage net c.args.timing.now in
-    let stimulus = c.in-Ok.stimulus in
-    stimulus_on _ _ c.args.words.now.stimulus net ends stimulus _ _ _ _ _ _ c.in-Ok.ensures.same_names c.in-Ok.ensures.same_bytes (rw c.as_bytes.ensures at c.in-Ok.ensures.step)
-    (follows_here _ _ _ _ (ends stimulus) (refl, inl (_, c.in-Ok-lines.ensures, refl)))
+    let stimulus = c.in_ok-stimulus.stimulus in
+    stimulus_on _ _ c.args.words.now.stimulus net ends stimulus _ _ _ _ _ _ c.in_ok-stimulus.ensures.same_names c.in_ok-stimulus.ensures.same_bytes (rw c.as_bytes.ensures at c.in_ok-stimulus.ensures.step)
+    (follows_here _ _ _ _ (ends stimulus) (refl, inl (_, c.in-Ok.ensures, refl)))
 
-pub returns-in-Err-lines-clause-expected : goal.returns-in-Err-lines-clause-expected
-returns-in-Err-lines-clause-expected g c =
+pub returns-clause-expected : goal.returns-clause-expected
+returns-clause-expected g c =
     let net = c.args.design.now.net in
     let ends = WritesCoverage net c.args.timing.now in
-    let stimulus = c.in-Ok.stimulus in
-    stimulus_on _ _ c.args.words.now.stimulus net ends stimulus _ _ _ _ _ _ c.in-Ok.ensures.same_names c.in-Ok.ensures.same_bytes (rw c.as_bytes.ensures at c.in-Ok.ensures.step)
+    let stimulus = c.in_ok-stimulus.stimulus in
+    stimulus_on _ _ c.args.words.now.stimulus net ends stimulus _ _ _ _ _ _ c.in_ok-stimulus.ensures.same_names c.in_ok-stimulus.ensures.same_bytes (rw c.as_bytes.ensures at c.in_ok-stimulus.ensures.step)
     (follows_here _ _ _ _ (ends stimulus) (refl, inr refl))

@@ -2,31 +2,33 @@
 use Rattle.named_files.specs.Checks.{After, HasFewSignals, HasNoLoop}
 use Rattle.yse_commands.specs.commands.Fault.{AfterListed, FaultsIn}
 use Rattle.named_files.specs.Files.{AfterFaultList}
-use Rattle.yse_commands.proofs.lemmas.ChainLemmas.{follows_on, follows_refusal}
+use Rattle.yse_commands.proofs.lemmas.ChainLemmas.{follows_on, follows_refusal, handed_on}
 use Rattle.yse_commands.proofs.PassingLemmas.{design_on, design_stops}
 use Rattle.yse_commands.proofs.fault.fault.Goals as goal
 
-pub returns-in-Err-clause-expected : goal.returns-in-Err-clause-expected
-returns-in-Err-clause-expected g c =
+pub returns-in_err-net-clause-expected : goal.returns-in_err-net-clause-expected
+returns-in_err-net-clause-expected g c =
     let words = c.args.words.now in
-    design_stops _ _ words (FaultsIn words) _ _ _ c.in-Err.ensures.step
+    handed_on _ c.from_residual.result c.from_residual.ensures
+    (design_stops _ _ words (FaultsIn words) _ _ _ c.in_err-net.ensures.step)
 
-pub returns-in-Err-ranked-clause-expected : goal.returns-in-Err-ranked-clause-expected
-returns-in-Err-ranked-clause-expected g c =
+pub returns-in_err-design-clause-expected : goal.returns-in_err-design-clause-expected
+returns-in_err-design-clause-expected g c =
     let words = c.args.words.now in
-    let net = c.in-Ok.timed.net in
-    let timing = c.in-Ok.timed.timing in
+    let net = c.in_ok-net.field-0.net in
+    let timing = c.in_ok-net.field-0.timing in
     let then = AfterFaultList words.faults net (AfterListed words.stimulus net timing) in
-    design_on _ _ words (FaultsIn words) c.in-Ok.timed _ _ _ _ _ _ c.in-Ok.ensures.same_names c.in-Ok.ensures.same_bytes c.in-Ok.ensures.step
-    (follows_refusal _ _ (HasNoLoop net timing) (λ passed. After (HasFewSignals net) (λ few. then)) _ _ c.in-Err-ranked.ensures.looped)
+    handed_on _ c.from_residual-in_err-design.result c.from_residual-in_err-design.ensures
+    (design_on _ _ words (FaultsIn words) c.in_ok-net.field-0 _ _ _ _ _ _ c.in_ok-net.ensures.same_names c.in_ok-net.ensures.same_bytes c.in_ok-net.ensures.step
+    (follows_refusal _ _ (HasNoLoop net timing) (λ passed. After (HasFewSignals net) (λ few. then)) _ _ c.in_err-design.ensures.looped))
 
-pub returns-in-Ok-ranked-clause-expected : goal.returns-in-Ok-ranked-clause-expected
-returns-in-Ok-ranked-clause-expected g c =
+pub returns-clause-expected : goal.returns-clause-expected
+returns-clause-expected g c =
     let words = c.args.words.now in
-    let net = c.in-Ok.timed.net in
-    let timing = c.in-Ok.timed.timing in
-    let same = c.in-Ok-ranked.ensures.same in
+    let net = c.in_ok-net.field-0.net in
+    let timing = c.in_ok-net.field-0.timing in
+    let same = c.in_ok-design.ensures.same in
     let then = AfterFaultList words.faults net (AfterListed words.stimulus net timing) in
-    design_on _ _ words (FaultsIn words) c.in-Ok.timed _ _ _ _ _ _ c.in-Ok.ensures.same_names c.in-Ok.ensures.same_bytes c.in-Ok.ensures.step
-    (follows_on _ _ (HasNoLoop net timing) (λ passed. After (HasFewSignals net) (λ few. then)) tt _ _ _ c.in-Ok-ranked.ensures.acyclic
-    (rw same at c.faults_of-listed.ensures.expected))
+    design_on _ _ words (FaultsIn words) c.in_ok-net.field-0 _ _ _ _ _ _ c.in_ok-net.ensures.same_names c.in_ok-net.ensures.same_bytes c.in_ok-net.ensures.step
+    (follows_on _ _ (HasNoLoop net timing) (λ passed. After (HasFewSignals net) (λ few. then)) tt _ _ _ c.in_ok-design.ensures.acyclic
+    (rw same at c.faults_of.ensures.expected))

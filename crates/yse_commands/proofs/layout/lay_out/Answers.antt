@@ -6,7 +6,7 @@ use Rattle.named_files.specs.Designs.{Placed}
 use Rattle.named_files.specs.Passing.{AfterPlaced, Continuation}
 use Rattle.yse_commands.specs.declared.layout.Sheet.{Sheet}
 use Rattle.yse_commands.specs.commands.Layout.{IsSheetOf}
-use Rattle.yse_commands.proofs.lemmas.ChainLemmas.{follows_here}
+use Rattle.yse_commands.proofs.lemmas.ChainLemmas.{follows_here, handed_on}
 use Rattle.yse_commands.proofs.PassingLemmas.{passed_on, stopped}
 use Rattle.named_files.proofs.lemmas.WeakerLemmas.{placed_so}
 use Rattle.yse_commands.proofs.layout.lay_out.Goals as goal
@@ -15,23 +15,24 @@ use Rattle.yse_commands.proofs.layout.lay_out.Goals as goal
 abbrev sheet_then : Sheet → RunWords → Continuation Placed
 sheet_then asked words design = Ends (Writes (IsSheetOf asked words.homes design.net design.machine design.timing))
 
+pub returns-in_err-planned-clause-expected : goal.returns-in_err-planned-clause-expected
+returns-in_err-planned-clause-expected g c =
+    let words = c.args.words.now in
+    handed_on _ c.from_residual.result c.from_residual.ensures
+    (stopped _ _ (AfterPlaced words) (placed_so words) (sheet_then c.args.sheet words) _ _ _ c.in_err-planned.ensures.step)
+
+pub returns-in-Ok-clause-expected : goal.returns-in-Ok-clause-expected
+returns-in-Ok-clause-expected g c =
+    let words = c.args.words.now in
+    let design = c.in_ok-planned.planned in
+    let then = sheet_then c.args.sheet words in
+    passed_on _ _ (AfterPlaced words) (placed_so words) design then _ _ _ _ _ _ c.in_ok-planned.ensures.same_names c.in_ok-planned.ensures.same_bytes c.in_ok-planned.ensures.step
+    (follows_here _ _ _ _ (then design) (refl, inl (_, rw c.in_ok-planned.ensures.homes at c.in-Ok.ensures, refl)))
+
 pub returns-in-Err-clause-expected : goal.returns-in-Err-clause-expected
 returns-in-Err-clause-expected g c =
     let words = c.args.words.now in
-    stopped _ _ (AfterPlaced words) (placed_so words) (sheet_then c.args.sheet words) _ _ _ c.in-Err.ensures.step
-
-pub returns-in-Ok-sheet_of-clause-expected : goal.returns-in-Ok-sheet_of-clause-expected
-returns-in-Ok-sheet_of-clause-expected g c =
-    let words = c.args.words.now in
-    let design = c.in-Ok.planned in
+    let design = c.in_ok-planned.planned in
     let then = sheet_then c.args.sheet words in
-    passed_on _ _ (AfterPlaced words) (placed_so words) design then _ _ _ _ _ _ c.in-Ok.ensures.same_names c.in-Ok.ensures.same_bytes c.in-Ok.ensures.step
-    (follows_here _ _ _ _ (then design) (refl, inl (_, rw c.in-Ok.ensures.homes at c.in-Ok-sheet_of.ensures, refl)))
-
-pub returns-in-Err-sheet_of-clause-expected : goal.returns-in-Err-sheet_of-clause-expected
-returns-in-Err-sheet_of-clause-expected g c =
-    let words = c.args.words.now in
-    let design = c.in-Ok.planned in
-    let then = sheet_then c.args.sheet words in
-    passed_on _ _ (AfterPlaced words) (placed_so words) design then _ _ _ _ _ _ c.in-Ok.ensures.same_names c.in-Ok.ensures.same_bytes c.in-Ok.ensures.step
+    passed_on _ _ (AfterPlaced words) (placed_so words) design then _ _ _ _ _ _ c.in_ok-planned.ensures.same_names c.in_ok-planned.ensures.same_bytes c.in_ok-planned.ensures.step
     (follows_here _ _ _ _ (then design) (refl, inr refl))

@@ -6,16 +6,16 @@ use Rattle.yse_commands.proofs.GateLemmas.{machine_ports}
 use Rattle.yse_commands.proofs.LaneLemmas.{lanes_printed}
 use Rattle.yse_commands.proofs.pack.lane_traces.Goals as goal
 
-pub run_pack-wrote-requires-clause-tell : goal.run_pack-wrote-requires-clause-tell
-run_pack-wrote-requires-clause-tell g c = λ lifetimes live i gate low at. c.requires.tell i gate (omega (arith, low, c.requires.range.workers_few)) at
+pub run_pack-requires-clause-tell : goal.run_pack-requires-clause-tell
+run_pack-requires-clause-tell g c = λ lifetimes live i gate low at. c.requires.tell i gate (omega (arith, low, c.requires.range.workers_few)) at
 
-pub returns-in-Ok-clause-printed : goal.returns-in-Ok-clause-printed
-returns-in-Ok-clause-printed g c =
+pub returns-clause-printed : goal.returns-clause-printed
+returns-clause-printed g c =
     let run = c.design.inside.run in
     rw (← c.design.view_is) (lanes_printed run.net run.timing c.args.lanes run.image c.design.invariant.runnable.image)
 
-pub returns-in-Ok-clause-visits : goal.returns-in-Ok-clause-visits
-returns-in-Ok-clause-visits g c =
+pub returns-clause-visits : goal.returns-clause-visits
+returns-clause-visits g c =
     let design = c.design.inside in
     let run = design.run in
     let lanes = c.args.lanes in
@@ -23,7 +23,7 @@ returns-in-Ok-clause-visits g c =
     rw (← c.design.view_is) (
       longest lanes,
       refl,
-      subst (λ n. AreVisitsOf g.G.Gate n (run.timing.units * longest lanes) workers c.args.gates.now c.run_pack-wrote.new.gates)
+      subst (λ n. AreVisitsOf g.G.Gate n (run.timing.units * longest lanes) workers c.args.gates.now c.run_pack.new.gates)
           (machine_ports design.homes run.net design.machine run.timing run.image c.design.invariant.made)
-          (subst (λ u. AreVisitsOf g.G.Gate (length run.image.ports) (u * longest lanes) workers c.args.gates.now c.run_pack-wrote.new.gates) c.design.invariant.runnable.image.units c.in-Ok.ensures.visits),
+          (subst (λ u. AreVisitsOf g.G.Gate (length run.image.ports) (u * longest lanes) workers c.args.gates.now c.run_pack.new.gates) c.design.invariant.runnable.image.units c.in_ok-wrote.ensures.visits),
     )

@@ -1,22 +1,23 @@
 -- The trace is written once the cells are few enough.
 use Rattle.std.proofs.Common.{◌++◌, refl, inl, inr, subst, sym}
+use Rattle.std.proofs.lemmas.Result.{err_from_is_err_and}
 use Rattle.net_defs.specs.Trace.{header_line, IsTrace}
 use Rattle.yse_commands.specs.Outputs.{cycle_lines}
 use Rattle.yse_commands.proofs.TraceLemmas.{printed_is_trace}
 use Rattle.yse_commands.proofs.refer.kept.Goals as goal
 
-pub returns-in-Ok-printed-clause-expected : goal.returns-in-Ok-printed-clause-expected
-returns-in-Ok-printed-clause-expected c =
+pub returns-in-Ok-clause-expected : goal.returns-in-Ok-clause-expected
+returns-in-Ok-clause-expected c =
     let net = c.args.design.net in
     let timing = c.args.timing.now in
     let stimulus = c.args.stimulus.now in
-    let trace = c.in-Ok-printed.trace in
-    let is_trace = subst (λ n. IsTrace net timing stimulus (header_line n ++ cycle_lines trace.rows.rows)) (sym c.in-Ok-printed.ensures.printed.0)
-    (printed_is_trace net timing stimulus trace.rows c.in-Ok-printed.ensures.printed.1) in
-    inl (tt, c.in-Ok.ensures, (refl, inl (_, is_trace, refl)))
-
-pub returns-in-Err-printed-clause-expected : goal.returns-in-Err-printed-clause-expected
-returns-in-Err-printed-clause-expected c = inl (tt, c.in-Ok.ensures, (refl, inr refl))
+    let trace = c.in-Ok.trace in
+    let is_trace = subst (λ n. IsTrace net timing stimulus (header_line n ++ cycle_lines trace.rows.rows)) (sym c.in-Ok.ensures.printed.0)
+    (printed_is_trace net timing stimulus trace.rows c.in-Ok.ensures.printed.1) in
+    inl (tt, c.in_ok-few_cells.ensures, (refl, inl (_, is_trace, refl)))
 
 pub returns-in-Err-clause-expected : goal.returns-in-Err-clause-expected
-returns-in-Err-clause-expected c = inr (refl, c.in-Err.ensures)
+returns-in-Err-clause-expected c = inl (tt, c.in_ok-few_cells.ensures, (refl, inr refl))
+
+pub returns-in_err-few_cells-clause-expected : goal.returns-in_err-few_cells-clause-expected
+returns-in_err-few_cells-clause-expected c = let p = err_from_is_err_and c.from_residual.result c.from_residual.ensures.1 in rw (p.1, p.2) (inr (refl, c.in_err-few_cells.ensures))

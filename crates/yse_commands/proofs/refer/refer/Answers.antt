@@ -1,42 +1,55 @@
 -- The netlist, the loop, the stimulus, and the trace.
+use Rattle.edge_io.specs.declared.counts.FileCounts.{FileCounts}
 use Rattle.named_files.specs.Checks.{HasNoLoop}
-use Rattle.yse_commands.specs.commands.Run.{AfterLoop, KeepsTrace}
+use Rattle.named_files.specs.Outcome.{Outcome}
+use Rattle.yse_commands.specs.Refusals.{Follows}
+use Rattle.yse_commands.specs.commands.Run.{AfterLoop, ExpectedRefer, KeepsTrace}
 use Rattle.named_files.specs.Files.{AfterStimulus}
-use Rattle.yse_commands.proofs.lemmas.ChainLemmas.{follows_here, follows_on, follows_refusal}
+use Rattle.yse_commands.proofs.lemmas.ChainLemmas.{follows_here, follows_on, follows_refusal, handed_on}
 use Rattle.yse_commands.proofs.PassingLemmas.{design_on, design_stops, stimulus_on, stimulus_stops}
+use Rattle.yse_commands.proofs.refer.refer.Given as given
 use Rattle.yse_commands.proofs.refer.refer.Goals as goal
+use Rattle.yse_commands.proofs.refer.refer.Goals.{In_ok-design, In_ok-net}
 
-pub returns-in-Err-clause-expected : goal.returns-in-Err-clause-expected
-returns-in-Err-clause-expected g c =
-    let words = c.args.words.now in
-    design_stops _ _ words (AfterLoop words.stimulus) _ _ _ c.in-Err.ensures.step
+-- the netlist is had, and then this comes of the call
+after_netlist : (g : given.Over) (c : In_ok-net g) (outcome : Outcome) (new : FileCounts) → Follows (g.F.Files.names c.design_from.new.files) (g.F.Files.bytes c.design_from.new.files) (g.F.Files.counts c.design_from.new.files) new outcome (AfterLoop c.args.words.now.stimulus c.in_ok-net.field-0.net c.in_ok-net.field-0.timing)
+    → Follows (g.F.Files.names c.args.files.now) (g.F.Files.bytes c.args.files.now) (g.F.Files.counts c.args.files.now) new outcome (ExpectedRefer c.args.words.now)
+after_netlist g c outcome new = design_on _ _ c.args.words.now (AfterLoop c.args.words.now.stimulus) c.in_ok-net.field-0 _ _ _ _ _ _ c.in_ok-net.ensures.same_names c.in_ok-net.ensures.same_bytes c.in_ok-net.ensures.step
 
-pub returns-in-Err-ordered-clause-expected : goal.returns-in-Err-ordered-clause-expected
-returns-in-Err-ordered-clause-expected g c =
-    let words = c.args.words.now in
-    let net = c.in-Ok.timed.net in
-    let timing = c.in-Ok.timed.timing in
-    design_on _ _ words (AfterLoop words.stimulus) c.in-Ok.timed _ _ _ _ _ _ c.in-Ok.ensures.same_names c.in-Ok.ensures.same_bytes c.in-Ok.ensures.step
-    (follows_refusal _ _ (HasNoLoop net timing) (λ passed. AfterStimulus words.stimulus net (KeepsTrace net timing)) _ _ c.in-Err-ordered.ensures.looped)
+-- and it has no loop
+after_loop : (g : given.Over) (c : In_ok-design g) (outcome : Outcome) (new : FileCounts) → Follows (g.F.Files.names c.design_from.new.files) (g.F.Files.bytes c.design_from.new.files) (g.F.Files.counts c.design_from.new.files) new outcome (AfterStimulus c.args.words.now.stimulus c.in_ok-net.field-0.net (KeepsTrace c.in_ok-net.field-0.net c.in_ok-net.field-0.timing))
+    → Follows (g.F.Files.names c.args.files.now) (g.F.Files.bytes c.args.files.now) (g.F.Files.counts c.args.files.now) new outcome (ExpectedRefer c.args.words.now)
+after_loop g c outcome new next =
+    let net = c.in_ok-net.field-0.net in
+    let timing = c.in_ok-net.field-0.timing in
+    after_netlist g (goal.at.In_ok-design g c).In_ok-net _ _
+    (follows_on _ _ (HasNoLoop net timing) (λ passed. AfterStimulus c.args.words.now.stimulus net (KeepsTrace net timing)) tt _ _ _ c.in_ok-design.ensures.acyclic next)
 
-pub returns-in-Err-stimulus_in-clause-expected : goal.returns-in-Err-stimulus_in-clause-expected
-returns-in-Err-stimulus_in-clause-expected g c =
+pub returns-in_err-net-clause-expected : goal.returns-in_err-net-clause-expected
+returns-in_err-net-clause-expected g c =
     let words = c.args.words.now in
-    let net = c.in-Ok.timed.net in
-    let timing = c.in-Ok.timed.timing in
-    design_on _ _ words (AfterLoop words.stimulus) c.in-Ok.timed _ _ _ _ _ _ c.in-Ok.ensures.same_names c.in-Ok.ensures.same_bytes c.in-Ok.ensures.step
-    (follows_on _ _ (HasNoLoop net timing) (λ passed. AfterStimulus words.stimulus net (KeepsTrace net timing)) tt _ _ _ c.in-Ok-ordered.ensures.acyclic
-    (stimulus_stops _ _ words.stimulus net (KeepsTrace net timing) _ _ _ (rw c.in-Ok-ordered.ensures.same at (rw c.as_bytes.ensures at c.in-Err-stimulus_in.ensures.step))))
+    handed_on _ c.from_residual.result c.from_residual.ensures (design_stops _ _ words (AfterLoop words.stimulus) _ _ _ c.in_err-net.ensures.step)
+
+pub returns-in_err-design-clause-expected : goal.returns-in_err-design-clause-expected
+returns-in_err-design-clause-expected g c =
+    let net = c.in_ok-net.field-0.net in
+    let timing = c.in_ok-net.field-0.timing in
+    handed_on _ c.from_residual-in_err-design.result c.from_residual-in_err-design.ensures (after_netlist g (goal.at.returns-in_err-design-clause-expected g c).In_ok-net _ _
+    (follows_refusal _ _ (HasNoLoop net timing) (λ passed. AfterStimulus c.args.words.now.stimulus net (KeepsTrace net timing)) _ _ c.in_err-design.ensures.looped))
+
+pub returns-in_err-stimulus-clause-expected : goal.returns-in_err-stimulus-clause-expected
+returns-in_err-stimulus-clause-expected g c =
+    let net = c.in_ok-net.field-0.net in
+    let timing = c.in_ok-net.field-0.timing in
+    handed_on _ c.from_residual-in_err-stimulus.result c.from_residual-in_err-stimulus.ensures (after_loop g (goal.at.returns-in_err-stimulus-clause-expected g c).In_ok-design _ _
+    (stimulus_stops _ _ c.args.words.now.stimulus net (KeepsTrace net timing) _ _ _ (rw c.in_ok-design.ensures.same at (rw c.as_bytes.ensures at c.in_err-stimulus.ensures.step))))
 
 pub returns-clause-expected : goal.returns-clause-expected
 returns-clause-expected g c =
-    let words = c.args.words.now in
-    let net = c.in-Ok.timed.net in
-    let timing = c.in-Ok.timed.timing in
-    let stimulus = c.in-Ok-stimulus_in.stimulus in
-    let same = c.in-Ok-ordered.ensures.same in
-    design_on _ _ words (AfterLoop words.stimulus) c.in-Ok.timed _ _ _ _ _ _ c.in-Ok.ensures.same_names c.in-Ok.ensures.same_bytes c.in-Ok.ensures.step
-    (follows_on _ _ (HasNoLoop net timing) (λ passed. AfterStimulus words.stimulus net (KeepsTrace net timing)) tt _ _ _ c.in-Ok-ordered.ensures.acyclic
-    (stimulus_on _ _ words.stimulus net (KeepsTrace net timing) stimulus _ _ _ _ _ _ c.in-Ok-stimulus_in.ensures.same_names c.in-Ok-stimulus_in.ensures.same_bytes
-    (rw same at (rw c.as_bytes.ensures at c.in-Ok-stimulus_in.ensures.step))
-    (follows_here _ _ _ _ (KeepsTrace net timing stimulus) (rw same at c.kept-result.ensures.expected))))
+    let net = c.in_ok-net.field-0.net in
+    let timing = c.in_ok-net.field-0.timing in
+    let stimulus = c.in_ok-stimulus.stimulus in
+    let same = c.in_ok-design.ensures.same in
+    after_loop g (goal.at.returns-clause-expected g c).In_ok-design _ _
+    (stimulus_on _ _ c.args.words.now.stimulus net (KeepsTrace net timing) stimulus _ _ _ _ _ _ c.in_ok-stimulus.ensures.same_names c.in_ok-stimulus.ensures.same_bytes (rw same at (rw c.as_bytes.ensures at c.in_ok-stimulus.ensures.step))
+    (follows_here _ _ _ _ (KeepsTrace net timing stimulus) (rw same at c.kept.ensures.expected)))

@@ -17,24 +17,14 @@ invariant_of-self g c =
     subst (λ ws. IsKept (record c.self.inside { workers = ws; rows = c.block_end-self-inside.result })) (sym (back c.self.inside.workers c.run_with.new.workers run.worker_count))
     (kept_at_end c.self.inside c.self.invariant g.G.Gate c.args.gates.now c.args.self.now c.self.view_is c.requires.enough c.run_with.new.workers c.run_with.new.gates run c.block_end-self-inside.result c.block_end-self-inside.ensures)
 
-pub returns-clause-visits : goal.returns-clause-visits
-returns-clause-visits g c =
+pub returns : goal.returns
+returns g c =
     let run = subst (λ ws. AllHaveRunWith seated.ghosts g.G.Gate ws c.args.gates.now c.run_with.new.workers c.run_with.new.gates) c.as_mut_slice.ensures.value c.run_with.ensures in
-    visits_at_end c.self.inside c.self.invariant g.G.Gate c.args.gates.now c.args.self.now c.self.view_is c.requires.enough c.run_with.new.workers c.run_with.new.gates run c.block_end-self-inside.result c.block_end-self-inside.ensures
-
-pub returns-clause-tell : goal.returns-clause-tell
-returns-clause-tell g c =
-    let run = subst (λ ws. AllHaveRunWith seated.ghosts g.G.Gate ws c.args.gates.now c.run_with.new.workers c.run_with.new.gates) c.as_mut_slice.ensures.value c.run_with.ensures in
-    can_tell_at_end c.self.inside c.self.invariant g.G.Gate c.args.gates.now c.args.self.now c.self.view_is c.requires.enough c.run_with.new.workers c.run_with.new.gates run c.block_end-self-inside.result c.block_end-self-inside.ensures c.requires.tell
-
-pub returns-clause-kept : goal.returns-clause-kept
-returns-clause-kept g c =
-    let run = subst (λ ws. AllHaveRunWith seated.ghosts g.G.Gate ws c.args.gates.now c.run_with.new.workers c.run_with.new.gates) c.as_mut_slice.ensures.value c.run_with.ensures in
-    in_place_at_end c.self.inside c.self.invariant g.G.Gate c.args.gates.now c.args.self.now c.self.view_is c.requires.enough c.run_with.new.workers c.run_with.new.gates run c.block_end-self-inside.result c.block_end-self-inside.ensures
-
-pub returns-clause-run : goal.returns-clause-run
-returns-clause-run g c =
-    let run = subst (λ ws. AllHaveRunWith seated.ghosts g.G.Gate ws c.args.gates.now c.run_with.new.workers c.run_with.new.gates) c.as_mut_slice.ensures.value c.run_with.ensures in
-    ◌∙◌ {b = at_block_end (view_of c.self.inside)}
-    (ap₂ (λ (n r : ℕ). record (view_of c.self.inside) { workers = n; rows = r }) (ap length (back c.self.inside.workers c.run_with.new.workers run.worker_count) ∙ run.worker_count)
-    (c.block_end-self-inside.ensures ∙ ap (min (c.self.inside.first_row + c.self.inside.window)) c.self.invariant.cycles)) (ap at_block_end c.self.view_is)
+    record {
+      run = ◌∙◌ {b = at_block_end (view_of c.self.inside)}
+          (ap₂ (λ (n r : ℕ). record (view_of c.self.inside) { workers = n; rows = r }) (ap length (back c.self.inside.workers c.run_with.new.workers run.worker_count) ∙ run.worker_count)
+          (c.block_end-self-inside.ensures ∙ ap (min (c.self.inside.first_row + c.self.inside.window)) c.self.invariant.cycles)) (ap at_block_end c.self.view_is);
+      visits = visits_at_end c.self.inside c.self.invariant g.G.Gate c.args.gates.now c.args.self.now c.self.view_is c.requires.enough c.run_with.new.workers c.run_with.new.gates run c.block_end-self-inside.result c.block_end-self-inside.ensures;
+      tell = can_tell_at_end c.self.inside c.self.invariant g.G.Gate c.args.gates.now c.args.self.now c.self.view_is c.requires.enough c.run_with.new.workers c.run_with.new.gates run c.block_end-self-inside.result c.block_end-self-inside.ensures c.requires.tell;
+      kept = in_place_at_end c.self.inside c.self.invariant g.G.Gate c.args.gates.now c.args.self.now c.self.view_is c.requires.enough c.run_with.new.workers c.run_with.new.gates run c.block_end-self-inside.result c.block_end-self-inside.ensures;
+    }

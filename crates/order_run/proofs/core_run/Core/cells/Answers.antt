@@ -18,16 +18,13 @@ cells-requires-clause-done c seat at =
     let rows = rows_here c.self.inside c.self.invariant c.len.result c.len.ensures c.as_slice.result.now c.as_slice.ensures seat at in
     subst (λ n. c.args.cycle ≤ n) (sym (rows ∙ ap rows_of c.self.view_is)) c.requires.done
 
-pub returns-clause-long : goal.returns-clause-long
-returns-clause-long c =
-    let host = host_there c.self.inside c.self.invariant c.len.result c.len.ensures c.as_slice.result.now c.as_slice.ensures in
-    let image = image_here c.self.inside c.self.invariant c.len.result c.len.ensures c.as_slice.result.now c.as_slice.ensures host.0 host.1 in
-    (c.cells.ensures host.0 host.1).long ∙ ap (λ (i : Image). length (printed_sources i)) (image ∙ ap (λ (v : CoreView). v.image) c.self.view_is)
-
-pub returns-clause-cells : goal.returns-clause-cells
-returns-clause-cells c j low =
+pub returns : goal.returns
+returns c =
     let host = host_there c.self.inside c.self.invariant c.len.result c.len.ensures c.as_slice.result.now c.as_slice.ensures in
     let image = image_here c.self.inside c.self.invariant c.len.result c.len.ensures c.as_slice.result.now c.as_slice.ensures host.0 host.1 in
     let stimulus = stimulus_here c.self.inside c.self.invariant c.len.result c.len.ensures c.as_slice.result.now c.as_slice.ensures host.0 host.1 in
-    (c.cells.ensures host.0 host.1).shows j low
-    ∙ ap₂ (λ (i : Image) (s : Stimulus). shown i s c.args.cycle j) (image ∙ ap (λ (v : CoreView). v.image) c.self.view_is) (stimulus ∙ ap (λ (v : CoreView). v.stimulus) c.self.view_is)
+    record {
+      long = (c.cells.ensures host.0 host.1).long ∙ ap (λ (i : Image). length (printed_sources i)) (image ∙ ap (λ (v : CoreView). v.image) c.self.view_is);
+      cells = λ j low. (c.cells.ensures host.0 host.1).shows j low
+          ∙ ap₂ (λ (i : Image) (s : Stimulus). shown i s c.args.cycle j) (image ∙ ap (λ (v : CoreView). v.image) c.self.view_is) (stimulus ∙ ap (λ (v : CoreView). v.stimulus) c.self.view_is);
+    }

@@ -1,69 +1,66 @@
-use Rattle.std.proofs.Common.{◌<◌, ◌^◌, length, subst, sym}
+use Rattle.std.proofs.Common.{◌<◌, ◌^◌, length, subst}
 use Rattle.event_defs.specs.declared.place.CoreStep.TheVariants.{Moved}
 use Rattle.event_defs.specs.declared.place.Action.TheVariants as action
 use Rattle.event_defs.specs.declared.place.Event.TheVariants as event
 use Rattle.port_walk.specs.Placed.{CanPut}
-use Rattle.order_run.specs.declared.seats.Seat.{Seat}
+use Rattle.order_run.specs.declared.core_run.Core.TheInside.{Inside}
 use Rattle.order_run.specs.Core.{Applies, CoreView}
 use Rattle.order_run.specs.code.Core.{IsUpcoming}
-use Rattle.order_run.specs.Kept.{view_of}
+use Rattle.order_run.specs.Kept.{IsKept, view_of}
 use Rattle.order_run.specs.code.Seats.{HasPutRoom, seat_put}
-use Rattle.order_run.proofs.CoreLemmas.{put_room, reseated, same_seat, seat_in, seat_there}
-use Rattle.order_run.proofs.EventLemmas.{can_put, early_turn, put_moves}
+use Rattle.order_run.proofs.CoreLemmas.{at_seat, can_put, early_turn, inside_of, put_moves, put_room, reseated, seat_in, seat_low, seat_there, upcoming_of}
 use Rattle.order_run.proofs.core_run.Core.put.Goals as goal
+use Rattle.order_run.proofs.core_run.Core.put.Goals.{After-self, After-put}
 use Rattle.std.specs.List.{refill}
 
-pub write-requires-clause-can : goal.write-requires-clause-can
-write-requires-clause-can c seat at =
-    let a = c.self.inside in
-    let kept = c.self.invariant in
-    let p = c.args.port in
-    let within : c.args.port < length a.image.now.ports = subst (λ (v : CoreView). c.args.port < length v.image.ports) (sym c.self.view_is) c.requires.inside in
-    let upcoming = subst (λ (v : CoreView). IsUpcoming v c.args.port (action.Put c.args.slot c.args.value)) (sym c.self.view_is) c.requires.next in
-    subst (λ (s : Seat). CanPut s.port) (same_seat a kept p within seat c.as_slice.result.now c.as_slice.ensures at) (can_put a kept p within c.args.slot c.args.value upcoming)
+-- the core as it is made, and the next event of its port
+module _ (c : After-self) where
+  within : c.args.port < length c.self.inside.image.now.ports
+  within = inside_of c.self.inside c.args.self.now c.self.view_is c.args.port c.requires.inside
 
-pub write-requires-clause-room : goal.write-requires-clause-room
-write-requires-clause-room c seat at =
-    let a = c.self.inside in
-    let kept = c.self.invariant in
-    let p = c.args.port in
-    let within : c.args.port < length a.image.now.ports = subst (λ (v : CoreView). c.args.port < length v.image.ports) (sym c.self.view_is) c.requires.inside in
-    let upcoming = subst (λ (v : CoreView). IsUpcoming v c.args.port (action.Put c.args.slot c.args.value)) (sym c.self.view_is) c.requires.next in
-    subst (λ (s : Seat). HasPutRoom s a.banks (length a.words)) (same_seat a kept p within seat c.as_slice.result.now c.as_slice.ensures at) (put_room a kept p within)
+  upcoming : IsUpcoming (view_of c.self.inside) c.args.port (action.Put c.args.slot c.args.value)
+  upcoming = upcoming_of c.self.inside c.args.self.now c.self.view_is c.args.port (action.Put c.args.slot c.args.value) c.requires.next
 
-pub write-requires-clause-early : goal.write-requires-clause-early
-write-requires-clause-early c seat at =
-    let a = c.self.inside in
-    let kept = c.self.invariant in
-    let p = c.args.port in
-    let within : c.args.port < length a.image.now.ports = subst (λ (v : CoreView). c.args.port < length v.image.ports) (sym c.self.view_is) c.requires.inside in
-    let upcoming = subst (λ (v : CoreView). IsUpcoming v c.args.port (action.Put c.args.slot c.args.value)) (sym c.self.view_is) c.requires.next in
-    subst (λ (s : Seat). s.port.turn < 2 ^ 60) (same_seat a kept p within seat c.as_slice.result.now c.as_slice.ensures at) (early_turn a kept p within)
+  can : CanPut (seat_there c.self.inside c.self.invariant c.args.port within).0.port
+  can = can_put c.self.inside c.self.invariant c.args.port within c.args.slot c.args.value upcoming
 
-pub put-requires-clause-can : goal.put-requires-clause-can
-put-requires-clause-can c seat at =
+pub write-requires : goal.write-requires
+write-requires c =
+    let a = c.self.inside in
+    let first = (goal.at.write-requires c).After-self in
+    let here = at_seat a c.self.invariant c.args.port (within first) c.as_slice.result.now c.as_slice.ensures in
+    record {
+      there = seat_low a c.self.invariant c.args.port (within first) c.as_slice.result.now c.as_slice.ensures;
+      can = here (λ s. CanPut s.port) (can first);
+      room = here (λ s. HasPutRoom s a.banks (length a.words)) (put_room a c.self.invariant c.args.port (within first));
+      early = here (λ s. s.port.turn < 2 ^ 60) (early_turn a c.self.invariant c.args.port (within first));
+      some = c.self.invariant.some;
+    }
+
+pub put-requires : goal.put-requires
+put-requires c =
+    let first = (goal.at.put-requires c).After-self in
+    record {
+      there = seat_low c.self.inside c.self.invariant c.args.port (within first) c.as_mut_slice.result.now c.as_mut_slice.ensures.value;
+      can = at_seat c.self.inside c.self.invariant c.args.port (within first) c.as_mut_slice.result.now c.as_mut_slice.ensures.value (λ s. CanPut s.port) (can first);
+    }
+
+-- the core afterwards
+abbrev after : (c : After-put) → Inside
+after c = record c.self.inside { seats = refill (length c.self.inside.seats) c.self.inside.seats c.put.new.seats; words = c.write.new.words }
+
+moved : (c : After-put) → IsKept (after c) × Applies (view_of c.self.inside) c.args.port (Moved (event.Put c.args.slot)) (view_of (after c))
+moved c =
     let a = c.self.inside in
     let kept = c.self.invariant in
     let p = c.args.port in
-    let within : c.args.port < length a.image.now.ports = subst (λ (v : CoreView). c.args.port < length v.image.ports) (sym c.self.view_is) c.requires.inside in
-    let upcoming = subst (λ (v : CoreView). IsUpcoming v c.args.port (action.Put c.args.slot c.args.value)) (sym c.self.view_is) c.requires.next in
-    subst (λ (s : Seat). CanPut s.port) (same_seat a kept p within seat c.as_mut_slice.result.now c.as_mut_slice.ensures.value at) (can_put a kept p within c.args.slot c.args.value upcoming)
+    let first = (goal.at.After-put c).After-self in
+    put_moves a kept p (within first) c.args.slot c.args.value (refill (length a.seats) a.seats c.put.new.seats) c.write.new.words (upcoming first) (c.write.ensures (seat_there a kept p (within first)).0 (seat_in a kept p (within first) c.as_slice.result.now c.as_slice.ensures)) (λ i link sending. reseated a.seats c.as_mut_slice.result.now c.put.new.seats p (seat_put (seat_there a kept p (within first)).0 link.slot) c.as_mut_slice.ensures.value (c.put.ensures (seat_there a kept p (within first)).0 (seat_in a kept p (within first) c.as_mut_slice.result.now c.as_mut_slice.ensures.value) i link sending))
 
 pub invariant_of-self : goal.invariant_of-self
-invariant_of-self c =
-    let a = c.self.inside in
-    let kept = c.self.invariant in
-    let p = c.args.port in
-    let within : c.args.port < length a.image.now.ports = subst (λ (v : CoreView). c.args.port < length v.image.ports) (sym c.self.view_is) c.requires.inside in
-    let upcoming = subst (λ (v : CoreView). IsUpcoming v c.args.port (action.Put c.args.slot c.args.value)) (sym c.self.view_is) c.requires.next in
-    (put_moves a kept p within c.args.slot c.args.value (refill (length a.seats) a.seats c.put.new.seats) c.write.new.words upcoming (c.write.ensures (seat_there a kept p within).0 (seat_in a kept p within c.as_slice.result.now c.as_slice.ensures)) (λ i link sending. reseated a.seats c.as_mut_slice.result.now c.put.new.seats c.args.port (seat_put (seat_there a kept p within).0 link.slot) c.as_mut_slice.ensures.value (c.put.ensures (seat_there a kept p within).0 (seat_in a kept p within c.as_mut_slice.result.now c.as_mut_slice.ensures.value) i link sending))).0
+invariant_of-self c = (moved (goal.at.invariant_of-self c).After-put).0
 
 pub returns : goal.returns
 returns c =
-    let a = c.self.inside in
-    let kept = c.self.invariant in
-    let p = c.args.port in
-    let within : c.args.port < length a.image.now.ports = subst (λ (v : CoreView). c.args.port < length v.image.ports) (sym c.self.view_is) c.requires.inside in
-    let upcoming = subst (λ (v : CoreView). IsUpcoming v c.args.port (action.Put c.args.slot c.args.value)) (sym c.self.view_is) c.requires.next in
-    subst (λ (v : CoreView). Applies v c.args.port (Moved (event.Put c.args.slot)) (view_of (record a { seats = (refill (length a.seats) a.seats c.put.new.seats); words = c.write.new.words }))) c.self.view_is
-    (put_moves a kept p within c.args.slot c.args.value (refill (length a.seats) a.seats c.put.new.seats) c.write.new.words upcoming (c.write.ensures (seat_there a kept p within).0 (seat_in a kept p within c.as_slice.result.now c.as_slice.ensures)) (λ i link sending. reseated a.seats c.as_mut_slice.result.now c.put.new.seats c.args.port (seat_put (seat_there a kept p within).0 link.slot) c.as_mut_slice.ensures.value (c.put.ensures (seat_there a kept p within).0 (seat_in a kept p within c.as_mut_slice.result.now c.as_mut_slice.ensures.value) i link sending))).1
+    let last = (goal.at.returns c).After-put in
+    subst (λ (v : CoreView). Applies v c.args.port (Moved (event.Put c.args.slot)) (view_of (after last))) c.self.view_is (moved last).1

@@ -45,14 +45,11 @@ whole c =
     let all : c.ports.port ≡ length c.args.self.now.image.ports = omega arith in
     subst (λ n. HasStepped c.args.self.now n c.ports.moved c.ports.self) all c.ports.invariant
 
-pub returns-clause-round : goal.returns-clause-round
-returns-clause-round c = round_made c.args.self.now c.ports.self c.ports.moved (ready c) (whole c)
-
-pub returns-clause-done : goal.returns-clause-done
-returns-clause-done c = (round_none c.args.self.now c.ports.self c.ports.moved (ready c) (whole c), round_over c.args.self.now c.ports.self c.ports.moved (ready c) (whole c))
-
-pub returns-clause-left : goal.returns-clause-left
-returns-clause-left c = round_left c.args.self.now c.ports.self c.ports.moved (ready c) (whole c)
-
-pub returns-clause-sound : goal.returns-clause-sound
-returns-clause-sound c = round_sound c.args.self.now c.ports.self c.ports.moved (ready c) (whole c)
+pub returns : goal.returns
+returns c =
+    record {
+      round = round_made c.args.self.now c.ports.self c.ports.moved (ready c) (whole c);
+      done = (round_none c.args.self.now c.ports.self c.ports.moved (ready c) (whole c), round_over c.args.self.now c.ports.self c.ports.moved (ready c) (whole c));
+      left = round_left c.args.self.now c.ports.self c.ports.moved (ready c) (whole c);
+      sound = round_sound c.args.self.now c.ports.self c.ports.moved (ready c) (whole c);
+    }

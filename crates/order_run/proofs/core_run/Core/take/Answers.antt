@@ -1,71 +1,83 @@
-use Rattle.std.proofs.Common.{◌<◌, length, subst, sym, refl}
+use Rattle.std.proofs.Common.{◌<◌, length, subst, refl}
+use Rattle.std.specs.List.{refill}
+use Rattle.std.proofs.lemmas.Bool.{false≢true}
 use Rattle.event_defs.specs.declared.place.CoreStep.TheVariants.{Moved, NotYet}
 use Rattle.event_defs.specs.declared.place.Action.TheVariants as action
 use Rattle.event_defs.specs.declared.place.Event.TheVariants as event
 use Rattle.port_walk.specs.Placed.{CanTake, CanTakeValue}
-use Rattle.order_run.specs.declared.seats.Seat.{Seat}
+use Rattle.order_run.specs.declared.core_run.Core.TheInside.{Inside}
 use Rattle.order_run.specs.Core.{Applies, CoreView}
 use Rattle.order_run.specs.code.Core.{IsUpcoming}
-use Rattle.order_run.specs.Kept.{view_of}
-use Rattle.order_run.specs.code.Seats.{HasTakeRoom, seat_taken}
-use Rattle.order_run.proofs.CoreLemmas.{take_room, reseated, same_seat, seat_in, seat_there}
-use Rattle.order_run.proofs.EventLemmas.{can_take, take_waits, can_take_value, take_moves}
-use Rattle.std.proofs.lemmas.Bool.{false≢true}
+use Rattle.order_run.specs.Kept.{IsKept, view_of}
+use Rattle.order_run.specs.code.Seats.{HasTakeRoom, IsWordRead, seat_taken}
+use Rattle.order_run.proofs.CoreLemmas.{at_seat, can_take, can_take_value, inside_of, reseated, seat_in, seat_low, seat_there, take_moves, take_room, take_waits, upcoming_of}
 use Rattle.order_run.proofs.core_run.Core.take.Goals as goal
-use Rattle.std.specs.List.{refill}
+use Rattle.order_run.proofs.core_run.Core.take.Goals.{After-self, After-read-word, After-take}
 
-pub read-word-requires-clause-can : goal.read-word-requires-clause-can
-read-word-requires-clause-can c seat at =
-    let a = c.self.inside in
-    let kept = c.self.invariant in
-    let p = c.args.port in
-    let within : c.args.port < length a.image.now.ports = subst (λ (v : CoreView). c.args.port < length v.image.ports) (sym c.self.view_is) c.requires.inside in
-    let upcoming = subst (λ (v : CoreView). IsUpcoming v c.args.port (action.Take c.args.slot)) (sym c.self.view_is) c.requires.next in
-    subst (λ (s : Seat). CanTake s.port) (same_seat a kept p within seat c.as_slice.result.now c.as_slice.ensures at) (can_take a kept p within c.args.slot upcoming)
+-- the core as it is made, and the next event of its port
+module _ (c : After-self) where
+  within : c.args.port < length c.self.inside.image.now.ports
+  within = inside_of c.self.inside c.args.self.now c.self.view_is c.args.port c.requires.inside
 
-pub read-word-requires-clause-room : goal.read-word-requires-clause-room
-read-word-requires-clause-room c seat at =
+  upcoming : IsUpcoming (view_of c.self.inside) c.args.port (action.Take c.args.slot)
+  upcoming = upcoming_of c.self.inside c.args.self.now c.self.view_is c.args.port (action.Take c.args.slot) c.requires.next
+
+pub read-word-requires : goal.read-word-requires
+read-word-requires c =
     let a = c.self.inside in
-    let kept = c.self.invariant in
-    let p = c.args.port in
-    let within : c.args.port < length a.image.now.ports = subst (λ (v : CoreView). c.args.port < length v.image.ports) (sym c.self.view_is) c.requires.inside in
-    subst (λ (s : Seat). HasTakeRoom s a.banks (length a.words)) (same_seat a kept p within seat c.as_slice.result.now c.as_slice.ensures at) (take_room a kept p within)
+    let first = (goal.at.read-word-requires c).After-self in
+    let here = at_seat a c.self.invariant c.args.port (within first) c.as_slice.result.now c.as_slice.ensures in
+    record {
+      there = seat_low a c.self.invariant c.args.port (within first) c.as_slice.result.now c.as_slice.ensures;
+      can = here (λ s. CanTake s.port) (can_take a c.self.invariant c.args.port (within first) c.args.slot (upcoming first));
+      room = here (λ s. HasTakeRoom s a.banks (length a.words)) (take_room a c.self.invariant c.args.port (within first));
+    }
+
+-- the word that was read
+read : (c : After-read-word) → IsWordRead (seat_there c.self.inside c.self.invariant c.args.port (within (goal.at.After-read-word c).After-self)).0 c.self.inside.banks c.self.inside.words c.read-word.result
+read c = let first = (goal.at.After-read-word c).After-self in c.read-word.ensures _ (seat_in c.self.inside c.self.invariant c.args.port (within first) c.as_slice.result.now c.as_slice.ensures)
 
 pub returns-then-not-is_of : goal.returns-then-not-is_of
 returns-then-not-is_of c =
     let a = c.self.inside in
     let kept = c.self.invariant in
     let p = c.args.port in
-    let within : c.args.port < length a.image.now.ports = subst (λ (v : CoreView). c.args.port < length v.image.ports) (sym c.self.view_is) c.requires.inside in
-    let upcoming = subst (λ (v : CoreView). IsUpcoming v c.args.port (action.Take c.args.slot)) (sym c.self.view_is) c.requires.next in
-    subst (λ (v : CoreView). Applies v c.args.port NotYet v) c.self.view_is
-    (take_waits a kept p within c.args.slot c.read-word.result c.turn.result upcoming (c.read-word.ensures (seat_there a kept p within).0 (seat_in a kept p within c.as_slice.result.now c.as_slice.ensures)) (c.turn.ensures (seat_there a kept p within).0 (seat_in a kept p within c.as_slice-2.result.now c.as_slice-2.ensures)) (λ same. false≢true (c.if-not-is_of.ensures.1 same)))
+    let at = goal.at.returns-then-not-is_of c in
+    let first = at.After-self in
+    subst (λ (v : CoreView). Applies v p NotYet v) c.self.view_is
+    (take_waits a kept p (within first) c.args.slot c.read-word.result c.turn.result (upcoming first) (read at.After-read-word) (c.turn.ensures _ (seat_in a kept p (within first) c.as_slice-2.result.now c.as_slice-2.ensures)) (λ same. false≢true (c.if-not-is_of.ensures.1 same)))
 
-pub take-requires-clause-can : goal.take-requires-clause-can
-take-requires-clause-can c seat at =
+pub take-requires : goal.take-requires
+take-requires c =
     let a = c.self.inside in
     let kept = c.self.invariant in
     let p = c.args.port in
-    let within : c.args.port < length a.image.now.ports = subst (λ (v : CoreView). c.args.port < length v.image.ports) (sym c.self.view_is) c.requires.inside in
-    let upcoming = subst (λ (v : CoreView). IsUpcoming v c.args.port (action.Take c.args.slot)) (sym c.self.view_is) c.requires.next in
-    subst (λ (s : Seat). CanTakeValue s.port c.decoded.result) (same_seat a kept p within seat c.as_mut_slice.result.now c.as_mut_slice.ensures.value at)
-    (can_take_value a kept p within c.args.slot c.read-word.result c.turn.result c.decoded.result upcoming (c.read-word.ensures (seat_there a kept p within).0 (seat_in a kept p within c.as_slice.result.now c.as_slice.ensures)) (c.turn.ensures (seat_there a kept p within).0 (seat_in a kept p within c.as_slice-2.result.now c.as_slice-2.ensures)) (c.if-not-is_of.ensures.0 refl) c.decoded.ensures)
+    let at = goal.at.take-requires c in
+    let first = at.After-self in
+    record {
+      there = seat_low a kept p (within first) c.as_mut_slice.result.now c.as_mut_slice.ensures.value;
+      can = at_seat a kept p (within first) c.as_mut_slice.result.now c.as_mut_slice.ensures.value (λ s. CanTakeValue s.port c.decoded.result)
+          (can_take_value a kept p (within first) c.args.slot c.read-word.result c.turn.result c.decoded.result (upcoming first) (read at.After-read-word) (c.turn.ensures _ (seat_in a kept p (within first) c.as_slice-2.result.now c.as_slice-2.ensures)) (c.if-not-is_of.ensures.0 refl) c.decoded.ensures);
+    }
+
+-- the core afterwards
+abbrev after : After-take → Inside
+after c = record c.self.inside { seats = refill (length c.self.inside.seats) c.self.inside.seats c.take.new.seats }
+
+moved : (c : After-take) → IsKept (after c) × Applies (view_of c.self.inside) c.args.port (Moved (event.Take c.args.slot)) (view_of (after c))
+moved c =
+    let a = c.self.inside in
+    let kept = c.self.invariant in
+    let p = c.args.port in
+    let at = goal.at.After-take c in
+    let first = at.After-self in
+    take_moves a kept p (within first) c.args.slot c.read-word.result c.turn.result (refill (length a.seats) a.seats c.take.new.seats) (upcoming first) (read at.After-read-word) (c.turn.ensures _ (seat_in a kept p (within first) c.as_slice-2.result.now c.as_slice-2.ensures)) (c.if-not-is_of.ensures.0 refl)
+    (λ j link receiving. reseated a.seats c.as_mut_slice.result.now c.take.new.seats p (seat_taken (seat_there a kept p (within first)).0 link.slot) c.as_mut_slice.ensures.value (c.take.ensures _ (seat_in a kept p (within first) c.as_mut_slice.result.now c.as_mut_slice.ensures.value) j link receiving))
 
 pub invariant_of-self : goal.invariant_of-self
-invariant_of-self c =
-    let a = c.self.inside in
-    let kept = c.self.invariant in
-    let p = c.args.port in
-    let within : c.args.port < length a.image.now.ports = subst (λ (v : CoreView). c.args.port < length v.image.ports) (sym c.self.view_is) c.requires.inside in
-    let upcoming = subst (λ (v : CoreView). IsUpcoming v c.args.port (action.Take c.args.slot)) (sym c.self.view_is) c.requires.next in
-    (take_moves a kept p within c.args.slot c.read-word.result c.turn.result (refill (length a.seats) a.seats c.take.new.seats) upcoming (c.read-word.ensures (seat_there a kept p within).0 (seat_in a kept p within c.as_slice.result.now c.as_slice.ensures)) (c.turn.ensures (seat_there a kept p within).0 (seat_in a kept p within c.as_slice-2.result.now c.as_slice-2.ensures)) (c.if-not-is_of.ensures.0 refl) (λ j link receiving. reseated a.seats c.as_mut_slice.result.now c.take.new.seats c.args.port (seat_taken (seat_there a kept p within).0 link.slot) c.as_mut_slice.ensures.value (c.take.ensures (seat_there a kept p within).0 (seat_in a kept p within c.as_mut_slice.result.now c.as_mut_slice.ensures.value) j link receiving))).0
+invariant_of-self c = (moved (goal.at.invariant_of-self c).After-take).0
 
 pub returns : goal.returns
 returns c =
-    let a = c.self.inside in
-    let kept = c.self.invariant in
-    let p = c.args.port in
-    let within : c.args.port < length a.image.now.ports = subst (λ (v : CoreView). c.args.port < length v.image.ports) (sym c.self.view_is) c.requires.inside in
-    let upcoming = subst (λ (v : CoreView). IsUpcoming v c.args.port (action.Take c.args.slot)) (sym c.self.view_is) c.requires.next in
-    subst (λ (v : CoreView). Applies v c.args.port (Moved (event.Take c.args.slot)) (view_of (record a { seats = (refill (length a.seats) a.seats c.take.new.seats) }))) c.self.view_is
-    (take_moves a kept p within c.args.slot c.read-word.result c.turn.result (refill (length a.seats) a.seats c.take.new.seats) upcoming (c.read-word.ensures (seat_there a kept p within).0 (seat_in a kept p within c.as_slice.result.now c.as_slice.ensures)) (c.turn.ensures (seat_there a kept p within).0 (seat_in a kept p within c.as_slice-2.result.now c.as_slice-2.ensures)) (c.if-not-is_of.ensures.0 refl) (λ j link receiving. reseated a.seats c.as_mut_slice.result.now c.take.new.seats c.args.port (seat_taken (seat_there a kept p within).0 link.slot) c.as_mut_slice.ensures.value (c.take.ensures (seat_there a kept p within).0 (seat_in a kept p within c.as_mut_slice.result.now c.as_mut_slice.ensures.value) j link receiving))).1
+    let last = (goal.at.returns c).After-take in
+    subst (λ (v : CoreView). Applies v c.args.port (Moved (event.Take c.args.slot)) (view_of (after last))) c.self.view_is (moved last).1

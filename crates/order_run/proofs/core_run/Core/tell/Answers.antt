@@ -1,50 +1,56 @@
-use Rattle.std.proofs.Common.{◌≡◌, ◌<◌, ◌+◌, ◌%◌, length, slice_set, subst, sym}
+use Rattle.std.proofs.Common.{◌≡◌, ◌<◌, ◌+◌, ◌%◌, length, subst}
+use Rattle.std.specs.List.{refill}
 use Rattle.event_defs.specs.declared.place.CoreStep.TheVariants.{Moved}
 use Rattle.event_defs.specs.declared.place.Action.TheVariants as action
 use Rattle.event_defs.specs.declared.place.Event.TheVariants as event
 use Rattle.port_walk.specs.Placed.{IsEnding}
-use Rattle.order_run.specs.declared.seats.Seat.{Seat}
+use Rattle.order_run.specs.declared.core_run.Core.TheInside.{Inside}
 use Rattle.order_run.specs.Core.{Applies, CoreView}
 use Rattle.order_run.specs.code.Core.{IsUpcoming}
-use Rattle.order_run.specs.Kept.{view_of}
+use Rattle.order_run.specs.Kept.{IsKept, view_of}
 use Rattle.order_run.specs.code.Seats.{seat_told}
-use Rattle.order_run.proofs.CoreLemmas.{is_seat, reseated, same_seat, seat_in, seat_there}
-use Rattle.order_run.proofs.EventLemmas.{can_tell, tell_moves}
+use Rattle.order_run.proofs.CoreLemmas.{at_seat, can_tell, inside_of, is_seat, reseated, seat_in, seat_low, seat_there, tell_moves, upcoming_of}
 use Rattle.order_run.proofs.core_run.Core.tell.Goals as goal
+use Rattle.order_run.proofs.core_run.Core.tell.Goals.{After-self, After-set}
 
-pub tell-requires-clause-can : goal.tell-requires-clause-can
-tell-requires-clause-can c seat at =
+-- the core as it is made, and the next event of its port
+module _ (c : After-self) where
+  within : c.args.port < length c.self.inside.image.now.ports
+  within = inside_of c.self.inside c.args.self.now c.self.view_is c.args.port c.requires.inside
+
+  upcoming : IsUpcoming (view_of c.self.inside) c.args.port action.Tell
+  upcoming = upcoming_of c.self.inside c.args.self.now c.self.view_is c.args.port action.Tell c.requires.next
+
+pub tell-requires : goal.tell-requires
+tell-requires c =
+    let a = c.self.inside in
+    let first = (goal.at.tell-requires c).After-self in
+    let here = at_seat a c.self.invariant c.args.port (within first) c.as_mut_slice.result.now c.as_mut_slice.ensures.value in
+    record {
+      there = seat_low a c.self.invariant c.args.port (within first) c.as_mut_slice.result.now c.as_mut_slice.ensures.value;
+      can = here (λ s. IsEnding s.port) (can_tell a c.self.invariant c.args.port (within first) (upcoming first));
+      bank = here (λ s. s.bank ≡ s.port.turn % a.banks) (is_seat a c.self.invariant c.args.port (within first)).bank;
+      some = c.self.invariant.some;
+    }
+
+-- the core afterwards
+abbrev after : After-set → Inside
+after c = record c.self.inside { seats = refill (length c.self.inside.seats) c.self.inside.seats c.tell.new.seats; finished = c.set.new.self }
+
+moved : (c : After-set) → IsKept (after c) × Applies (view_of c.self.inside) c.args.port (Moved event.Tell) (view_of (after c))
+moved c =
     let a = c.self.inside in
     let kept = c.self.invariant in
     let p = c.args.port in
-    let within : c.args.port < length a.image.now.ports = subst (λ (v : CoreView). c.args.port < length v.image.ports) (sym c.self.view_is) c.requires.inside in
-    let upcoming = subst (λ (v : CoreView). IsUpcoming v c.args.port (action.Tell)) (sym c.self.view_is) c.requires.next in
-    subst (λ (s : Seat). IsEnding s.port) (same_seat a kept p within seat c.as_mut_slice.result.now c.as_mut_slice.ensures.value at) (can_tell a kept p within upcoming)
-
-pub tell-requires-clause-bank : goal.tell-requires-clause-bank
-tell-requires-clause-bank c seat at =
-    let a = c.self.inside in
-    let kept = c.self.invariant in
-    let p = c.args.port in
-    let within : c.args.port < length a.image.now.ports = subst (λ (v : CoreView). c.args.port < length v.image.ports) (sym c.self.view_is) c.requires.inside in
-    subst (λ (s : Seat). s.bank ≡ s.port.turn % a.banks) (same_seat a kept p within seat c.as_mut_slice.result.now c.as_mut_slice.ensures.value at) (is_seat a kept p within).bank
+    let first = (goal.at.After-set c).After-self in
+    let seat = (seat_there a kept p (within first)).0 in
+    rw (reseated a.seats c.as_mut_slice.result.now c.tell.new.seats p (seat_told seat ((seat.port.turn + 1) % a.banks)) c.as_mut_slice.ensures.value (c.tell.ensures seat (seat_in a kept p (within first) c.as_mut_slice.result.now c.as_mut_slice.ensures.value)), c.set.ensures)
+    (tell_moves a kept p (within first) c.turn-turn.result (upcoming first) (c.turn-turn.ensures seat (seat_in a kept p (within first) c.as_slice.result.now c.as_slice.ensures)))
 
 pub invariant_of-self : goal.invariant_of-self
-invariant_of-self c =
-    let a = c.self.inside in
-    let kept = c.self.invariant in
-    let p = c.args.port in
-    let within : c.args.port < length a.image.now.ports = subst (λ (v : CoreView). c.args.port < length v.image.ports) (sym c.self.view_is) c.requires.inside in
-    let upcoming = subst (λ (v : CoreView). IsUpcoming v c.args.port (action.Tell)) (sym c.self.view_is) c.requires.next in
-    rw (reseated a.seats c.as_mut_slice.result.now c.tell.new.seats c.args.port (seat_told (seat_there a kept p within).0 (((seat_there a kept p within).0.port.turn + 1) % a.banks)) c.as_mut_slice.ensures.value (c.tell.ensures (seat_there a kept p within).0 (seat_in a kept p within c.as_mut_slice.result.now c.as_mut_slice.ensures.value)), c.set.ensures) (tell_moves a kept p within c.turn-turn.result upcoming (c.turn-turn.ensures (seat_there a kept p within).0 (seat_in a kept p within c.as_slice.result.now c.as_slice.ensures))).0
+invariant_of-self c = (moved (goal.at.invariant_of-self c).After-set).0
 
 pub returns : goal.returns
 returns c =
-    let a = c.self.inside in
-    let kept = c.self.invariant in
-    let p = c.args.port in
-    let within : c.args.port < length a.image.now.ports = subst (λ (v : CoreView). c.args.port < length v.image.ports) (sym c.self.view_is) c.requires.inside in
-    let upcoming = subst (λ (v : CoreView). IsUpcoming v c.args.port (action.Tell)) (sym c.self.view_is) c.requires.next in
-    rw (reseated a.seats c.as_mut_slice.result.now c.tell.new.seats c.args.port (seat_told (seat_there a kept p within).0 (((seat_there a kept p within).0.port.turn + 1) % a.banks)) c.as_mut_slice.ensures.value (c.tell.ensures (seat_there a kept p within).0 (seat_in a kept p within c.as_mut_slice.result.now c.as_mut_slice.ensures.value)), c.set.ensures)
-    (subst (λ (v : CoreView). Applies v c.args.port (Moved event.Tell) (view_of (record a { seats = slice_set a.seats c.args.port (seat_told (seat_there a kept p within).0 (((seat_there a kept p within).0.port.turn + 1) % a.banks)); finished = slice_set a.finished c.args.port c.turn-turn.result }))) c.self.view_is
-    (tell_moves a kept p within c.turn-turn.result upcoming (c.turn-turn.ensures (seat_there a kept p within).0 (seat_in a kept p within c.as_slice.result.now c.as_slice.ensures))).1)
+    let last = (goal.at.returns c).After-set in
+    subst (λ (v : CoreView). Applies v c.args.port (Moved event.Tell) (view_of (after last))) c.self.view_is (moved last).1
