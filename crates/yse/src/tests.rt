@@ -18,7 +18,6 @@ mod lanes;
 mod machines;
 mod mixed;
 mod orders;
-mod own_limits;
 mod packs;
 mod readings;
 mod threads;
@@ -164,77 +163,12 @@ fn sink(alloc: Global, room: usize, most: usize, failing: u64) -> Result<MemSink
     MemSink::new(alloc, room, most.max(1), fails)
 }
 
-/// The sinks of a call: of its output and of its line.
-#[derive(Drop)]
-struct Sinks {
-    out: MemSink,
-    err: MemSink,
-}
-
 /// What came of a call: the number of its status, and what its sinks took.
 #[derive(Drop)]
 struct Ended {
     status: u8,
     out: MemSink,
     err: MemSink,
-}
-
-fn sinks_of(alloc: Global, edges: &Edges) -> Result<Sinks, Memory> {
-    let out = sink(alloc, edges.room, edges.most_written, edges.failing_write)?;
-    let err = sink(alloc, edges.line_room, 4096, edges.failing_line)?;
-    Ok(Sinks { out, err })
-}
-
-/// Calls `yse`, and answers the number of its status.
-fn call<R: Threads + Wait + Sync, G: Gate + Send>(
-    rt: &R,
-    alloc: Global,
-    words: &[String],
-    files: &mut MemFiles,
-    sinks: &mut Sinks,
-    gates: &mut [Option<G>],
-) -> u8
-    requires gates { MAX_WORKERS ≤ length gates.old }
-    requires tell { AllCanTell G.Gate.own gates.old }
-{
-    let (out, err) = (&mut sinks.out, &mut sinks.err);
-    yse(rt, alloc, words, files, out, err, gates).number()
-}
-
-/// What comes of a call over a store.
-fn end_over<R: Threads + Wait + Sync, G: Gate + Send>(
-    rt: &R,
-    alloc: Global,
-    words: &[String],
-    files: &mut MemFiles,
-    edges: &Edges,
-    gates: &mut [Option<G>],
-) -> Result<Ended, Memory>
-    requires gates { MAX_WORKERS ≤ length gates.old }
-    requires tell { AllCanTell G.Gate.own gates.old }
-{
-    let mut sinks = sinks_of(alloc, edges)?;
-    let status = call(rt, alloc, words, files, &mut sinks, gates);
-    let Sinks { out, err } = sinks;
-    Ok(Ended { status, out, err })
-}
-
-/// What comes of a call with these words over files with these texts.
-fn end_by<R: Threads + Wait + Sync, G: Gate + Send>(
-    rt: &R,
-    alloc: Global,
-    words: &[String],
-    texts: &Texts<'_>,
-    edges: &Edges,
-    gates: &mut [Option<G>],
-) -> Result<Ended, Memory>
-    requires gates { MAX_WORKERS ≤ length gates.old }
-    requires tell { AllCanTell G.Gate.own gates.old }
-{
-    let mut files = store(alloc, texts, edges)?;
-    let ended = end_over(rt, alloc, words, &mut files, edges, gates);
-    drop(files);
-    ended
 }
 
 /// What comes of a call with the words of these lines over these files, with gates that are handed in.
@@ -250,9 +184,23 @@ fn end_with<R: Threads + Wait + Sync, G: Gate + Send>(
     requires tell { AllCanTell G.Gate.own gates.old }
 {
     let words = words_of(alloc, lines)?;
-    let ended = end_by(rt, alloc, words.as_slice(), texts, edges, gates);
-    drop(words);
-    ended
+    let mut files = store(alloc, texts, edges)?;
+    let mut out = sink(alloc, edges.room, edges.most_written, edges.failing_write)?;
+    let mut err = sink(alloc, edges.line_room, 4096, edges.failing_line)?;
+    let status = yse(
+        rt,
+        alloc,
+        words.as_slice(),
+        &mut files,
+        &mut out,
+        &mut err,
+        gates,
+    );
+    Ok(Ended {
+        status: status.number(),
+        out,
+        err,
+    })
 }
 
 /// The same with gates that only count.
@@ -264,9 +212,7 @@ fn end_of<R: Threads + Wait + Sync>(
     edges: &Edges,
 ) -> Result<Ended, Memory> {
     let mut gates = count_gates(alloc, GATES)?;
-    let ended = end_with(rt, alloc, lines, texts, edges, gates.as_mut_slice());
-    drop(gates);
-    ended
+    end_with(rt, alloc, lines, texts, edges, gates.as_mut_slice())
 }
 
 fn has_ended(ended: &Ended, status: u8, output: &[u8], line: &[u8]) -> bool {
@@ -276,11 +222,23 @@ fn has_ended(ended: &Ended, status: u8, output: &[u8], line: &[u8]) -> bool {
 /// Whether a call ended with this status, this output and this line.
 fn is_end(ended: Result<Ended, Memory>, wanted: (u8, &[u8], &[u8])) -> bool {
     match ended {
-        Ok(ended) => {
-            let right = has_ended(&ended, wanted.0, wanted.1, wanted.2);
-            drop(ended);
-            right
-        }
+        Ok(ended) => has_ended(&ended, wanted.0, wanted.1, wanted.2),
+        Err(_) => false,
+    }
+}
+
+/// Whether a call ended with this status and this line, whatever it printed.
+fn has_told(ended: Result<Ended, Memory>, status: u8, line: &[u8]) -> bool {
+    match ended {
+        Ok(ended) => ended.status == status && ended.err.taken() == line,
+        Err(_) => false,
+    }
+}
+
+/// Whether a call ended with this status.
+fn has_status(ended: Result<Ended, Memory>, status: u8) -> bool {
+    match ended {
+        Ok(ended) => ended.status == status,
         Err(_) => false,
     }
 }
@@ -297,9 +255,23 @@ fn ends<R: Threads + Wait + Sync>(
     is_end(end_of(rt, alloc, lines, texts, edges), wanted)
 }
 
-/// Calls, with `|` between them, with the same words behind each, over the texts of a netlist, a stimulus, a machine and what else a call reads.
-/// The call of the store and the write of the output that fail (0: none). What is wanted: the number of the status, the
-/// output and the line.
+/// What each row of a case gives: one of the texts, words behind the others, the call of the store or the write of the
+/// output that fails, or the most bytes that one read gives.
+#[derive(Clone, Copy)]
+enum Given {
+    Netlist,
+    Stimulus,
+    Machine,
+    More,
+    Words,
+    FailingRead,
+    FailingWrite,
+    MostRead,
+}
+
+/// Calls, with `|` between them, with the same words behind each, over the texts of a netlist, a stimulus, a machine
+/// and what else a call reads. Then rows, with `|` between them: what is given in place of one of these, and behind
+/// `=>` what each call comes to: its output, its line, or its output and behind one more `=>` its line.
 #[derive(Clone, Copy)]
 struct Case {
     calls: &'static str,
@@ -308,13 +280,12 @@ struct Case {
     stimulus: &'static str,
     machine: &'static str,
     more: &'static str,
-    failing: (u64, u64),
-    status: u8,
-    output: &'static str,
-    line: &'static str,
+    given: Given,
+    rows: &'static str,
 }
 
-/// A row that names no call: over the files of a netlist and of a stimulus, each empty, with status 0 and no output.
+/// Names no call and has no row: over the files of a netlist and of a stimulus, each empty, where rows give the
+/// stimulus.
 const PLAIN: Case = Case {
     calls: "",
     words: FILES,
@@ -322,49 +293,127 @@ const PLAIN: Case = Case {
     stimulus: "",
     machine: "",
     more: "",
-    failing: (0, 0),
-    status: 0,
-    output: "",
-    line: "",
+    given: Given::Stimulus,
+    rows: "",
 };
 
-fn edges_of(case: &Case) -> Edges {
-    Edges {
-        failing_read: case.failing.0,
-        failing_write: case.failing.1,
-        ..EASY
+/// How the lines begin that are told, each with the number of its status. The first one that fits counts.
+const LINES: &[(&str, u8)] = &[
+    ("usage: ", 2),
+    ("read fault: ", 3),
+    ("write fault\n", 4),
+    ("netlist: ", 5),
+    ("machine: ", 6),
+    ("loop: ", 7),
+    ("overfull: ", 8),
+    ("stimulus: ", 9),
+    ("limit: ", 10),
+    ("order: ended ", 11),
+    ("order: line ", 12),
+    ("last list: ", 13),
+    ("image: line ", 14),
+    ("image: ", 15),
+    ("fault list: ", 16),
+];
+
+fn lines() -> &'static [(&'static str, u8)] {
+    LINES
+}
+
+/// The number of the status with which a call ends that tells this line; 0 where it is none.
+fn status_of(line: &str) -> u8 {
+    for (begin, status) in lines() {
+        if line.starts_with(begin) {
+            return *status;
+        }
+    }
+    0
+}
+
+/// What a row gives, and the output and the line that it wants. A row of another form wants what no call ends with.
+fn parts_of(row: &'static str) -> (&'static str, &'static str, &'static str) {
+    let (given, told) = row.split_once("=> ").unwrap_or((row, "a row"));
+    match told.split_once("=> ") {
+        Some((output, line)) => (given, output, line),
+        None if status_of(told) == 0 => (given, told, ""),
+        None => (given, "", told),
     }
 }
 
-/// Whether a call of a case ends as it says.
-fn is_case<R: Threads + Wait + Sync>(
+/// The texts of a case with what a row gives.
+fn texts_with(case: &Case, given: &'static str) -> Texts<'static> {
+    let (netlist, stimulus) = (case.netlist.as_bytes(), case.stimulus.as_bytes());
+    let (machine, more) = (case.machine.as_bytes(), case.more.as_bytes());
+    match case.given {
+        Given::Netlist => [given.as_bytes(), stimulus, machine, more],
+        Given::Stimulus => [netlist, given.as_bytes(), machine, more],
+        Given::Machine => [netlist, stimulus, given.as_bytes(), more],
+        Given::More => [netlist, stimulus, machine, given.as_bytes()],
+        _ => [netlist, stimulus, machine, more],
+    }
+}
+
+fn edges_with(case: &Case, given: &'static str) -> Edges {
+    let number = given.parse::<u32>().unwrap_or(0);
+    match case.given {
+        Given::FailingRead => Edges {
+            failing_read: u64::from(number),
+            ..EASY
+        },
+        Given::FailingWrite => Edges {
+            failing_write: u64::from(number),
+            ..EASY
+        },
+        Given::MostRead => Edges {
+            most_read: number as usize,
+            ..EASY
+        },
+        _ => EASY,
+    }
+}
+
+fn words_with(case: &Case, given: &'static str) -> &'static str {
+    match case.given {
+        Given::Words => given,
+        _ => "",
+    }
+}
+
+/// Whether a call of a case ends as a row says.
+fn is_row<R: Threads + Wait + Sync>(
+    rt: &R,
+    alloc: Global,
+    call: &'static str,
+    case: &Case,
+    row: &'static str,
+) -> bool {
+    let (given, output, line) = parts_of(row);
+    let words = [call, case.words, words_with(case, given)];
+    let (texts, edges) = (texts_with(case, given), edges_with(case, given));
+    let wanted = (status_of(line), output.as_bytes(), line.as_bytes());
+    ends(rt, alloc, &words, &texts, &edges, wanted)
+}
+
+/// Whether a call ends so with each row of a case.
+fn are_rows<R: Threads + Wait + Sync>(
     rt: &R,
     alloc: Global,
     call: &'static str,
     case: &Case,
 ) -> bool {
-    let texts = [
-        case.netlist.as_bytes(),
-        case.stimulus.as_bytes(),
-        case.machine.as_bytes(),
-        case.more.as_bytes(),
-    ];
-    let wanted = (case.status, case.output.as_bytes(), case.line.as_bytes());
-    ends(
-        rt,
-        alloc,
-        &[call, case.words],
-        &texts,
-        &edges_of(case),
-        wanted,
-    )
+    for row in case.rows.split('|') {
+        if !is_row(rt, alloc, call, case, row) {
+            return false;
+        }
+    }
+    true
 }
 
 /// Whether all calls of these cases do.
 fn all_end<R: Threads + Wait + Sync>(rt: &R, alloc: Global, cases: &'static [Case]) -> bool {
     for case in cases {
         for call in case.calls.split('|') {
-            if !is_case(rt, alloc, call, case) {
+            if !are_rows(rt, alloc, call, case) {
                 return false;
             }
         }
@@ -389,82 +438,44 @@ fn all_print<R: Threads + Wait + Sync>(
     true
 }
 
-/// Whether the reference simulation ends so with a netlist file that is one comment of so many bytes and an empty
-/// stimulus.
-fn ends_with_comment<R: Threads + Wait + Sync>(
+/// Whether these calls, each with the same words behind it, print what the reference simulation does by this call.
+fn all_print_reference<R: Threads + Wait + Sync>(
     rt: &R,
     alloc: Global,
-    bytes: usize,
-    wanted: (u8, &[u8], &[u8]),
+    reference: &str,
+    calls: &'static str,
+    words: &'static str,
+    texts: &Texts<'_>,
 ) -> Result<bool, Memory> {
-    let comment = List::filled(alloc, b'#', bytes)?;
-    let texts: Texts<'_> = [comment.as_slice(), b"", b"", b""];
-    let right = ends(rt, alloc, &["refer", FILES], &texts, &EASY, wanted);
-    drop(comment);
-    Ok(right)
+    let reference = end_of(rt, alloc, &[reference], texts, &EASY)?;
+    let printed = all_print(rt, alloc, calls, words, texts, reference.out.taken());
+    Ok(reference.status == 0 && printed)
 }
 
-/// A text of 67,108,864 bytes is read, and one of a byte more is refused.
-#[test]
-fn texts_have_a_most(rt: HostRuntime) {
-    let line = b"limit: net.bench has more than 67108864 bytes\n";
-    assert!(rt; ends_with_comment(&rt, rt.alloc(), 67_108_864, (0, b"cycle\n", b"")) == Ok(true));
-    assert!(rt; ends_with_comment(&rt, rt.alloc(), 67_108_865, (10, b"", line)) == Ok(true));
-}
-
-/// A store in which each name is there, of which the netlist has this text.
-fn plain_store(alloc: Global, netlist: &str) -> Result<PlainFiles, Memory> {
-    let mut list = List::new(alloc);
-    push_file(alloc, &mut list, "net.bench", netlist.as_bytes())?;
-    Ok(PlainFiles::new(list))
-}
-
-/// The number of the status of a call over such a store, and sinks that take all. None of them can fail.
-fn plain_call<R: Threads + Wait + Sync>(
-    rt: &R,
-    alloc: Global,
-    words: &[String],
-    files: &mut PlainFiles,
-) -> Result<u8, Memory> {
-    let mut gates = count_gates(alloc, GATES)?;
-    let (mut out, mut err) = (NullSink::new(), NullSink::new());
-    let status = yse(
-        rt,
-        alloc,
-        words,
-        files,
-        &mut out,
-        &mut err,
-        gates.as_mut_slice(),
-    );
-    drop(gates);
-    Ok(status.number())
-}
-
-/// The same over a store that is made for it.
-fn plain_status<R: Threads + Wait + Sync>(
-    rt: &R,
-    alloc: Global,
-    words: &[String],
-    netlist: &str,
-) -> Result<u8, Memory> {
-    let mut files = plain_store(alloc, netlist)?;
-    let status = plain_call(rt, alloc, words, &mut files);
-    drop(files);
-    status
-}
-
-/// Whether a call with the words of a line ends so with status 0.
+/// Whether a call with the words of a line ends with status 0 over a store in which each name is there, of which the
+/// netlist has this text, and with sinks that take all. None of them can fail.
 fn is_plainly_done<R: Threads + Wait + Sync>(
     rt: &R,
     alloc: Global,
     line: &str,
     netlist: &str,
-) -> Result<bool, AllocError> {
+) -> Result<bool, Memory> {
     let words = words_of(alloc, &[line])?;
-    let status = plain_status(rt, alloc, words.as_slice(), netlist);
-    drop(words);
-    Ok(status == Ok(0))
+    let mut gates = count_gates(alloc, GATES)?;
+    let mut list = List::new(alloc);
+    push_file(alloc, &mut list, "net.bench", netlist.as_bytes())?;
+    let mut files = PlainFiles::new(list);
+    let (mut out, mut err) = (NullSink::new(), NullSink::new());
+    let status = yse(
+        rt,
+        alloc,
+        words.as_slice(),
+        &mut files,
+        &mut out,
+        &mut err,
+        gates.as_mut_slice(),
+    );
+    Ok(status.number() == 0)
 }
 
 /// The stimulus, which isn't in the list, is an empty file.

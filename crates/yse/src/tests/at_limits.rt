@@ -1,6 +1,6 @@
 //! Whole calls over texts on both sides of the limits that only long texts meet. What they print is not looked at.
 
-use super::{EASY, Edges, end_of};
+use super::{EASY, Edges, end_of, has_told, status_of};
 use seen_list::{Memory, Text};
 use std::alloc::Global;
 use std::marker::Sync;
@@ -16,15 +16,13 @@ enum Much {
     Gates(u32, u32),
     /// Two inputs, memories of 16 address bits and 64 data bits, and memories of one bit of each.
     Memories(u32, u32),
-    /// Lines of a million steps of port 0, and lines of one step.
-    Steps(u32, u32),
-    /// Tables of the port of an image.
-    Tables(u32),
+    /// What it begins with, a piece that stands there so many times, and its end.
+    Pieces(&'static str, &'static str, u32, &'static str),
 }
 
-/// A call, what the text of `net.bench` has, the stimulus, the number of the status, and the line. The file `net.machine` has
-/// room for the memories, and `net.more` is empty.
-type Limit = (&'static str, Much, &'static str, u8, &'static str);
+/// A call, what the text of `net.bench` has, the stimulus, and the line that is told. The file `net.machine` has room
+/// for the memories, and `net.more` is empty.
+type Limit = (&'static str, Much, &'static str, &'static str);
 
 const REFER: &str = "refer net.bench net.stim";
 
@@ -43,87 +41,102 @@ const MACHINE: &[u8] = b"bits 16777216\narray 2\n";
 /// A stimulus that is refused: what is within a limit is told so.
 const BAD: &str = "2\n";
 
+const BAD_LINE: &str = "stimulus: line 1: bad character\n";
+
+const SHOW: &str = "show net.bench";
+
+const OPERANDS: &str = "netlist: line 2: wrong number of operands\n";
+
+/// An input, and a memory of one data bit up to where further address bits begin.
+const MEMORY: &str = "INPUT(a)\n[q] = RAM(a; a";
+
+const IMAGE: &str = "yse-image 1\nslots 2 units 1 init x columns 1 ports 2\nport logic\n";
+
+const TABLE: &str =
+    "table a4a4a4a4a4a4a4a4 a4a4a4a4a4a4a4a4 a4a4a4a4a4a4a4a4 a4a4a4a4a4a4a4a4 a4a4a4a4a4a4a4a4 a4a4a4a4a4a4a4a4 a4a4a4a4a4a4a4a4 a4a4a4a4a4a4a4a4\n";
+
+/// 64 bytes of a comment.
+const COMMENT: &str = "################################################################";
+
 const LIMITS: &[Limit] = &[
-    (
-        REFER,
-        Much::Inputs(1_048_576),
-        BAD,
-        9,
-        "stimulus: line 1: bad character\n",
-    ),
+    (REFER, Much::Inputs(1_048_576), BAD, BAD_LINE),
     (
         REFER,
         Much::Inputs(1_048_577),
         BAD,
-        5,
         "netlist: line 1048577: too many signals\n",
     ),
-    (
-        REFER,
-        Much::Gates(4095, 1024),
-        BAD,
-        9,
-        "stimulus: line 1: bad character\n",
-    ),
+    (REFER, Much::Gates(4095, 1024), BAD, BAD_LINE),
     (
         REFER,
         Much::Gates(4096, 1),
         BAD,
-        5,
         "netlist: line 4098: too many operands\n",
     ),
-    (
-        FAULT,
-        Much::Inputs(65_536),
-        BAD,
-        9,
-        "stimulus: line 1: bad character\n",
-    ),
+    (FAULT, Much::Inputs(65_536), BAD, BAD_LINE),
     (
         FAULT,
         Much::Inputs(65_537),
         BAD,
-        10,
         "limit: 65537 signals, at most 65536\n",
     ),
     (
         PACK,
         Much::Memories(4, 0),
         BAD,
-        9,
         "stimulus: line 1: no lane\n",
     ),
     (
         PACK,
         Much::Memories(4, 1),
         BAD,
-        10,
         "limit: 16777218 memory bits, at most 16777216\n",
     ),
-    ("large 30000 1 --workers 1", Much::Inputs(0), "", 0, ""),
-    ("large 1 10000 --workers 1", Much::Inputs(0), "", 0, ""),
+    ("large 30000 1 --workers 1", Much::Inputs(0), "", ""),
+    ("large 1 10000 --workers 1", Much::Inputs(0), "", ""),
     // Each cycle writes at an address that is undefined.
-    (RUN, Much::Memories(1, 0), "1x * 100000\n", 0, ""),
+    (RUN, Much::Memories(1, 0), "1x * 100000\n", ""),
     (
         ORDER,
-        Much::Steps(1000, 1),
+        Much::Pieces("", "0 * 1000000\n", 1000, "0\n"),
         "",
-        12,
         "order: line 1001: too long\n",
+    ),
+    // All steps of 1,000 lines are few enough.
+    (
+        ORDER,
+        Much::Pieces("", "0 * 1000000\n", 1000, "x\n"),
+        "",
+        "order: line 1001: syntax\n",
     ),
     (
         EXEC,
-        Much::Tables(4096),
+        Much::Pieces(IMAGE, TABLE, 4096, ""),
         "",
-        14,
         "image: line 4100: syntax\n",
     ),
     (
         EXEC,
-        Much::Tables(4097),
+        Much::Pieces(IMAGE, TABLE, 4097, ""),
         "",
-        14,
         "image: line 4100: out of range\n",
+    ),
+    // A text of 67,108,864 bytes is read, and one of a byte more is refused.
+    (REFER, Much::Pieces("", COMMENT, 1_048_576, ""), "", ""),
+    (
+        REFER,
+        Much::Pieces("", COMMENT, 1_048_576, "#"),
+        "",
+        "limit: net.bench has more than 67108864 bytes\n",
+    ),
+    // Gates of more than 1,024 operands, and memories of 16 address bits and of one more.
+    (REFER, Much::Gates(0, 1025), BAD, OPERANDS),
+    (SHOW, Much::Pieces(MEMORY, ", a", 15, "; a)\n"), "", ""),
+    (
+        SHOW,
+        Much::Pieces(MEMORY, ", a", 16, "; a)\n"),
+        "",
+        OPERANDS,
     ),
 ];
 
@@ -164,7 +177,8 @@ fn push_memory(
     text.push_bytes(b")\n")
 }
 
-fn push_inputs(alloc: Global, text: &mut Text, count: u32) -> Result<(), Memory> {
+/// Inputs whose names are their numbers.
+pub(crate) fn push_inputs(alloc: Global, text: &mut Text, count: u32) -> Result<(), Memory> {
     for i in 0..count {
         text.push_bytes(format!(in alloc; "INPUT({i})\n")?.as_bytes())?;
     }
@@ -190,23 +204,15 @@ fn push_memories(alloc: Global, text: &mut Text, large: u32, small: u32) -> Resu
     Ok(())
 }
 
-const TABLE: &str =
-    "table a4a4a4a4a4a4a4a4 a4a4a4a4a4a4a4a4 a4a4a4a4a4a4a4a4 a4a4a4a4a4a4a4a4 a4a4a4a4a4a4a4a4 a4a4a4a4a4a4a4a4 a4a4a4a4a4a4a4a4 a4a4a4a4a4a4a4a4\n";
-
 fn push_much(alloc: Global, text: &mut Text, much: Much) -> Result<(), Memory> {
     match much {
         Much::Inputs(count) => push_inputs(alloc, text, count),
         Much::Gates(wide, last) => push_gates(alloc, text, wide, last),
         Much::Memories(large, small) => push_memories(alloc, text, large, small),
-        Much::Steps(millions, ones) => {
-            push_times(text, "0 * 1000000\n", millions)?;
-            push_times(text, "0\n", ones)
-        }
-        Much::Tables(count) => {
-            text.push_bytes(
-                b"yse-image 1\nslots 2 units 1 init x columns 1 ports 2\nport logic\n",
-            )?;
-            push_times(text, TABLE, count)
+        Much::Pieces(front, piece, times, end) => {
+            push_times(text, front, 1)?;
+            push_times(text, piece, times)?;
+            push_times(text, end, 1)
         }
     }
 }
@@ -220,11 +226,8 @@ fn ends_at<R: Threads + Wait + Sync>(rt: &R, alloc: Global, limit: &Limit) -> Re
         ..EASY
     };
     let texts = [text.as_bytes(), limit.2.as_bytes(), MACHINE, b""];
-    let ended = end_of(rt, alloc, &[limit.0], &texts, &edges)?;
-    let right = ended.status == limit.3 && ended.err.taken() == limit.4.as_bytes();
-    drop(ended);
-    drop(text);
-    Ok(right)
+    let ended = end_of(rt, alloc, &[limit.0], &texts, &edges);
+    Ok(has_told(ended, status_of(limit.3), limit.3.as_bytes()))
 }
 
 #[test]

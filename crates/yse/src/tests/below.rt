@@ -10,7 +10,6 @@ mod of_fault_sim;
 mod of_func_table;
 mod of_lane_planes;
 mod of_large_run;
-mod of_limits;
 mod of_logic_four;
 mod of_machine_text;
 mod of_node_map;

@@ -1,7 +1,10 @@
 //! Whole calls at edges that fail, or that give or take little at a time, and over texts that are cut off or as
 //! large as a text may be.
 
-use super::{C17, Case, EASY, Edges, FILES, PLAIN, S27, Texts, all_end, end_of, ends, texts_of};
+use super::{
+    C17, Case, EASY, Edges, FILES, Given, PLAIN, S27, Texts, all_end, end_of, ends, has_status,
+    has_told, texts_of,
+};
 use seen_list::{Memory, Text};
 use std::alloc::Global;
 use std::marker::Sync;
@@ -10,181 +13,55 @@ use std::thread::Threads;
 
 const COMMANDS: &str = "run|refer|order";
 
-const S27_TRACE: &str = "cycle G17\n1 1\n2 1\n3 1\n";
-
 const C17_TRACE: &str = "cycle 22 23\n1 10\n2 00\n3 xx\n";
+
+const THREE_CYCLES: Case = Case {
+    calls: COMMANDS,
+    words: "net.bench net.stim --init 0",
+    netlist: S27,
+    stimulus: "0000 * 3\n",
+    ..PLAIN
+};
 
 const CASES: &[Case] = &[
     // Each file is begun, read, and read again up to its end.
     Case {
-        calls: COMMANDS,
-        words: "net.bench net.stim --init 0",
-        netlist: S27,
-        stimulus: "0000 * 3\n",
-        failing: (1, 0),
-        status: 3,
-        line: "read fault: net.bench\n",
-        ..PLAIN
-    },
-    Case {
-        calls: COMMANDS,
-        words: "net.bench net.stim --init 0",
-        netlist: S27,
-        stimulus: "0000 * 3\n",
-        failing: (2, 0),
-        status: 3,
-        line: "read fault: net.bench\n",
-        ..PLAIN
-    },
-    Case {
-        calls: COMMANDS,
-        words: "net.bench net.stim --init 0",
-        netlist: S27,
-        stimulus: "0000 * 3\n",
-        failing: (3, 0),
-        status: 3,
-        line: "read fault: net.bench\n",
-        ..PLAIN
-    },
-    Case {
-        calls: COMMANDS,
-        words: "net.bench net.stim --init 0",
-        netlist: S27,
-        stimulus: "0000 * 3\n",
-        failing: (4, 0),
-        status: 3,
-        line: "read fault: net.stim\n",
-        ..PLAIN
-    },
-    Case {
-        calls: COMMANDS,
-        words: "net.bench net.stim --init 0",
-        netlist: S27,
-        stimulus: "0000 * 3\n",
-        failing: (5, 0),
-        status: 3,
-        line: "read fault: net.stim\n",
-        ..PLAIN
-    },
-    Case {
-        calls: COMMANDS,
-        words: "net.bench net.stim --init 0",
-        netlist: S27,
-        stimulus: "0000 * 3\n",
-        failing: (6, 0),
-        status: 3,
-        line: "read fault: net.stim\n",
-        ..PLAIN
-    },
-    Case {
-        calls: COMMANDS,
-        words: "net.bench net.stim --init 0",
-        netlist: S27,
-        stimulus: "0000 * 3\n",
-        failing: (7, 0),
-        output: S27_TRACE,
-        ..PLAIN
+        given: Given::FailingRead,
+        rows: "\
+1=> read fault: net.bench\n\
+|2=> read fault: net.bench\n\
+|3=> read fault: net.bench\n\
+|4=> read fault: net.stim\n\
+|5=> read fault: net.stim\n\
+|6=> read fault: net.stim\n\
+|7=> cycle G17\n1 1\n2 1\n3 1\n",
+        ..THREE_CYCLES
     },
     // Whole lines are written before a write that fails.
     Case {
-        calls: COMMANDS,
-        words: "net.bench net.stim --init 0",
-        netlist: S27,
-        stimulus: "0000 * 3\n",
-        failing: (0, 1),
-        status: 4,
-        line: "write fault\n",
-        ..PLAIN
+        given: Given::FailingWrite,
+        rows: "\
+1=> write fault\n\
+|2=> cycle G17\n=> write fault\n\
+|3=> cycle G17\n1 1\n=> write fault\n\
+|4=> cycle G17\n1 1\n2 1\n=> write fault\n\
+|5=> cycle G17\n1 1\n2 1\n3 1\n",
+        ..THREE_CYCLES
     },
+    // Files come in small pieces.
     Case {
-        calls: COMMANDS,
-        words: "net.bench net.stim --init 0",
-        netlist: S27,
-        stimulus: "0000 * 3\n",
-        failing: (0, 2),
-        status: 4,
-        output: "cycle G17\n",
-        line: "write fault\n",
-        ..PLAIN
-    },
-    Case {
-        calls: COMMANDS,
-        words: "net.bench net.stim --init 0",
-        netlist: S27,
-        stimulus: "0000 * 3\n",
-        failing: (0, 3),
-        status: 4,
-        output: "cycle G17\n1 1\n",
-        line: "write fault\n",
-        ..PLAIN
-    },
-    Case {
-        calls: COMMANDS,
-        words: "net.bench net.stim --init 0",
-        netlist: S27,
-        stimulus: "0000 * 3\n",
-        failing: (0, 4),
-        status: 4,
-        output: "cycle G17\n1 1\n2 1\n",
-        line: "write fault\n",
-        ..PLAIN
-    },
-    Case {
-        calls: COMMANDS,
-        words: "net.bench net.stim --init 0",
-        netlist: S27,
-        stimulus: "0000 * 3\n",
-        failing: (0, 5),
-        output: S27_TRACE,
-        ..PLAIN
+        given: Given::MostRead,
+        rows: "\
+1=> cycle G17\n1 1\n2 1\n3 1\n\
+|2=> cycle G17\n1 1\n2 1\n3 1\n\
+|7=> cycle G17\n1 1\n2 1\n3 1\n",
+        ..THREE_CYCLES
     },
 ];
 
 #[test]
-fn each_call_of_the_files_and_each_write_may_fail(rt: HostRuntime) {
+fn files_and_writes_end_as_stated(rt: HostRuntime) {
     assert!(rt; all_end(&rt, rt.alloc(), CASES));
-}
-
-/// Whether a call prints three cycles of s27 where the files come in pieces of so many bytes.
-fn comes_in_pieces<R: Threads + Wait + Sync>(
-    rt: &R,
-    alloc: Global,
-    call: &str,
-    most_read: usize,
-) -> bool {
-    let texts = texts_of(S27, "0000 * 3\n");
-    let edges = Edges { most_read, ..EASY };
-    ends(
-        rt,
-        alloc,
-        &[call],
-        &texts,
-        &edges,
-        (0, S27_TRACE.as_bytes(), b""),
-    )
-}
-
-const PIECES: &[(&str, usize)] = &[
-    ("run net.bench net.stim --init 0", 1),
-    ("run net.bench net.stim --init 0", 2),
-    ("run net.bench net.stim --init 0", 7),
-    ("refer net.bench net.stim --init 0", 1),
-    ("refer net.bench net.stim --init 0", 2),
-    ("refer net.bench net.stim --init 0", 7),
-    ("order net.bench net.stim --init 0", 1),
-    ("order net.bench net.stim --init 0", 2),
-    ("order net.bench net.stim --init 0", 7),
-];
-
-fn pieces() -> &'static [(&'static str, usize)] {
-    PIECES
-}
-
-#[test]
-fn files_come_in_small_pieces(rt: HostRuntime) {
-    for (call, most_read) in pieces() {
-        assert!(rt; comes_in_pieces(&rt, rt.alloc(), call, *most_read));
-    }
 }
 
 /// Whether a sink of so much room, which takes a byte a call, has as much of the trace as there is room for.
@@ -220,44 +97,26 @@ fn any_room_is_filled(rt: HostRuntime) {
     }
 }
 
-/// Whether a line that can't be told leaves the status of a refused netlist.
-fn keeps_its_status<R: Threads + Wait + Sync>(rt: &R, alloc: Global) -> bool {
+/// A line that can't be told leaves the status of a refused netlist.
+#[test]
+fn lines_may_fail(rt: HostRuntime) {
     let texts = texts_of("INPUT(a)\nOUTPUT(z)\nz = AND(a, b)\n", "");
     let edges = Edges {
         failing_line: 1,
         ..EASY
     };
-    ends(
-        rt,
-        alloc,
-        &["show net.bench"],
-        &texts,
-        &edges,
-        (5, b"", b""),
-    )
+    let wanted: (u8, &[u8], &[u8]) = (5, b"", b"");
+    assert!(rt; ends(&rt, rt.alloc(), &["show net.bench"], &texts, &edges, wanted));
 }
 
-const ANY_BYTE: &[u8] = b"input(a)\r\noutput(z)\r\nz = not(y) # \xff\r\ny = buff(a)\r\n";
-
-const CANONICAL: &[u8] = b"INPUT(a)\nOUTPUT(z)\nz = NOT(y)\ny = BUFF(a)\n";
-
-/// Whether line ends of two bytes are read, and a byte in a comment that has no place elsewhere.
-fn comment_has_any_byte<R: Threads + Wait + Sync>(rt: &R, alloc: Global) -> bool {
-    let texts: Texts<'_> = [ANY_BYTE, b"", b"", b""];
-    ends(
-        rt,
-        alloc,
-        &["show net.bench"],
-        &texts,
-        &EASY,
-        (0, CANONICAL, b""),
-    )
-}
-
+/// Line ends of two bytes are read, and a byte in a comment that has no place elsewhere.
 #[test]
-fn lines_that_fail_and_comments(rt: HostRuntime) {
-    assert!(rt; keeps_its_status(&rt, rt.alloc()));
-    assert!(rt; comment_has_any_byte(&rt, rt.alloc()));
+fn comments_have_any_byte(rt: HostRuntime) {
+    let netlist = b"input(a)\r\noutput(z)\r\nz = not(y) # \xff\r\ny = buff(a)\r\n";
+    let canonical = b"INPUT(a)\nOUTPUT(z)\nz = NOT(y)\ny = BUFF(a)\n";
+    let texts: Texts<'_> = [netlist, b"", b"", b""];
+    let wanted: (u8, &[u8], &[u8]) = (0, canonical, b"");
+    assert!(rt; ends(&rt, rt.alloc(), &["show net.bench"], &texts, &EASY, wanted));
 }
 
 /// Whether a text that begins with lines of inputs, of so many bytes, is a netlist where it is cut off behind
@@ -265,23 +124,6 @@ fn lines_that_fail_and_comments(rt: HostRuntime) {
 fn is_netlist(inputs: usize, front: &[u8], rest: &[u8]) -> bool {
     let ends_line = front.is_empty() || front.ends_with(b"\n") || rest.starts_with(b"\n");
     rest.is_empty() || (ends_line && (front.len() <= inputs || rest.len() == 1))
-}
-
-fn status_of_show<R: Threads + Wait + Sync>(
-    rt: &R,
-    alloc: Global,
-    netlist: &[u8],
-) -> Result<u8, Memory> {
-    let ended = end_of(
-        rt,
-        alloc,
-        &["show net.bench"],
-        &[netlist, b"", b"", b""],
-        &EASY,
-    )?;
-    let status = ended.status;
-    drop(ended);
-    Ok(status)
 }
 
 /// Whether a text that begins with inputs of so many bytes, cut off behind so many, is shown if it is a netlist, and
@@ -299,7 +141,9 @@ fn is_judged<R: Threads + Wait + Sync>(
     } else {
         5
     };
-    status_of_show(rt, alloc, front) == Ok(wanted)
+    let texts: Texts<'_> = [front, b"", b"", b""];
+    let ended = end_of(rt, alloc, &["show net.bench"], &texts, &EASY);
+    has_status(ended, wanted)
 }
 
 /// Whether it is refused wherever it is cut off inside.
@@ -321,80 +165,6 @@ fn is_refused_in_part<R: Threads + Wait + Sync>(
 fn texts_are_cut_off(rt: HostRuntime) {
     assert!(rt; is_refused_in_part(&rt, rt.alloc(), C17.as_bytes(), 45));
     assert!(rt; is_refused_in_part(&rt, rt.alloc(), S27.as_bytes(), 40));
-}
-
-/// Whether a call over a netlist ends with this status and this line, whatever it prints.
-fn tells<R: Threads + Wait + Sync>(
-    rt: &R,
-    alloc: Global,
-    call: &str,
-    netlist: &[u8],
-    edges: &Edges,
-    wanted: (u8, &[u8]),
-) -> Result<bool, Memory> {
-    let ended = end_of(rt, alloc, &[call], &[netlist, b"", b"", b""], edges)?;
-    let right = ended.status == wanted.0 && ended.err.taken() == wanted.1;
-    drop(ended);
-    Ok(right)
-}
-
-fn push_times(text: &mut Text, piece: &str, times: u32) -> Result<(), Memory> {
-    for _ in 0..times {
-        text.push_bytes(piece.as_bytes())?;
-    }
-    Ok(())
-}
-
-const OPERANDS: &str = "netlist: line 2: wrong number of operands\n";
-
-/// An input, and a memory of an address bit and of 64 data bits up to where they begin.
-const MEMORY: &str =
-    "INPUT(a)\n[q, q1, q2, q3, q4, q5, q6, q7, q8, q9, q10, q11, q12, q13, q14, q15, q16, q17, q18, q19, q20, q21, q22, q23, q24, q25, q26, q27, q28, q29, q30, q31, q32, q33, q34, q35, q36, q37, q38, q39, q40, q41, q42, q43, q44, q45, q46, q47, q48, q49, q50, q51, q52, q53, q54, q55, q56, q57, q58, q59, q60, q61, q62, q63] = RAM(a; a";
-
-const DATA: &str =
-    "; a, a, a, a, a, a, a, a, a, a, a, a, a, a, a, a, a, a, a, a, a, a, a, a, a, a, a, a, a, a, a, a, a, a, a, a, a, a, a, a, a, a, a, a, a, a, a, a, a, a, a, a, a, a, a, a, a, a, a, a, a, a, a, a)\n";
-
-/// A text, as what it begins with, a piece that stands there so many times, and its end; and the number of the status
-/// and the line of `show`.
-type Much = (
-    &'static str,
-    &'static str,
-    u32,
-    &'static str,
-    u8,
-    &'static str,
-);
-
-/// A name of 255 bytes, gates of 1,024 operands and of one more, and memories of 16 address bits and of one more.
-const MUCH: &[Much] = &[
-    ("INPUT(", "n", 255, ")\n", 0, ""),
-    ("INPUT(a)\nz = AND(a", ", a", 1023, ")\n", 0, ""),
-    ("INPUT(a)\nz = AND(a", ", a", 1024, ")\n", 5, OPERANDS),
-    (MEMORY, ", a", 15, DATA, 0, ""),
-    (MEMORY, ", a", 16, DATA, 5, OPERANDS),
-];
-
-fn all_much() -> &'static [Much] {
-    MUCH
-}
-
-/// Whether `show` of such a text ends with this status and this line.
-fn is_shown<R: Threads + Wait + Sync>(rt: &R, alloc: Global, much: &Much) -> Result<bool, Memory> {
-    let mut text = Text::new(alloc);
-    push_times(&mut text, much.0, 1)?;
-    push_times(&mut text, much.1, much.2)?;
-    push_times(&mut text, much.3, 1)?;
-    let wanted = (much.4, much.5.as_bytes());
-    let right = tells(rt, alloc, "show net.bench", text.as_bytes(), &EASY, wanted);
-    drop(text);
-    right
-}
-
-#[test]
-fn texts_at_the_limits(rt: HostRuntime) {
-    for much in all_much() {
-        assert!(rt; is_shown(&rt, rt.alloc(), much) == Ok(true));
-    }
 }
 
 /// Adds a gate to a netlist, and its name to a line.
@@ -433,15 +203,9 @@ fn ring_is_told<R: Threads + Wait + Sync>(
         line_room: 16_777_216,
         ..EASY
     };
-    let call = "refer net.bench net.stim";
-    tells(
-        rt,
-        alloc,
-        call,
-        netlist.as_bytes(),
-        &edges,
-        (7, line.as_bytes()),
-    )
+    let texts: Texts<'_> = [netlist.as_bytes(), b"", b"", b""];
+    let ended = end_of(rt, alloc, &["refer", FILES], &texts, &edges);
+    Ok(has_told(ended, 7, line.as_bytes()))
 }
 
 /// A loop of all gates that a netlist may have is told name by name.

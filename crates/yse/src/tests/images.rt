@@ -1,7 +1,8 @@
 //! Images that `compile` writes, and what `exec` makes of them and of others.
 
 use super::{
-    C17, Case, EASY, Ended, LATCH, PLAIN, RAM, S27, Texts, WIDE, all_end, all_print, end_of, four,
+    C17, Case, EASY, Edges, Ended, Given, LATCH, PLAIN, RAM, S27, Texts, WIDE, all_end, all_print,
+    end_of, ends, four, parts_of, status_of,
 };
 use seen_list::{Memory, Text};
 use std::alloc::Global;
@@ -13,8 +14,6 @@ use std::thread::Threads;
 const NETLIST: &str = "INPUT(a)\nOUTPUT(z)\nz = BUFF(a)\n";
 
 const ROWS: &str = "0\n1\n";
-
-const TRACE: &str = "cycle z\n1 0\n2 1\n";
 
 /// The image of the buffer.
 const IMAGE: &str = "\
@@ -32,336 +31,129 @@ send 0 0\n\
 take 1 0\n\
 end\n";
 
-/// The gate reads the input of the last turn.
-const LAST_TURN: &str = "\
-yse-image 1\n\
-slots 2 units 1 init x columns 1 ports 2\n\
-port logic\n\
-table a4a4a4a4a4a4a4a4 a4a4a4a4a4a4a4a4 a4a4a4a4a4a4a4a4 a4a4a4a4a4a4a4a4 a4a4a4a4a4a4a4a4 a4a4a4a4a4a4a4a4 a4a4a4a4a4a4a4a4 a4a4a4a4a4a4a4a4\n\
-eval 1 0 G0 c0 c0 c0 1\n\
-send 1 1\n\
-take 0 1\n\
-port host\n\
-in 0 0 0\n\
-print g1\n\
-send 0 0\n\
-take 1 0\n\
-end\n";
+/// Cases over the image of the buffer.
+const EXECUTED: Case = Case {
+    calls: "exec",
+    words: "net.bench net.more net.stim",
+    netlist: NETLIST,
+    stimulus: ROWS,
+    more: IMAGE,
+    given: Given::Words,
+    ..PLAIN
+};
 
-/// The input is not received.
-const NO_TAKE: &str = "\
-yse-image 1\n\
-slots 2 units 1 init x columns 1 ports 2\n\
-port logic\n\
-table a4a4a4a4a4a4a4a4 a4a4a4a4a4a4a4a4 a4a4a4a4a4a4a4a4 a4a4a4a4a4a4a4a4 a4a4a4a4a4a4a4a4 a4a4a4a4a4a4a4a4 a4a4a4a4a4a4a4a4 a4a4a4a4a4a4a4a4\n\
-eval 1 0 g0 c0 c0 c0 1\n\
-send 1 1\n\
-port host\n\
-in 0 0 0\n\
-print g1\n\
-send 0 0\n\
-take 1 0\n\
-end\n";
-
-/// The input is printed in place of the gate.
-const OTHER_PRINT: &str = "\
-yse-image 1\n\
-slots 2 units 1 init x columns 1 ports 2\n\
-port logic\n\
-table a4a4a4a4a4a4a4a4 a4a4a4a4a4a4a4a4 a4a4a4a4a4a4a4a4 a4a4a4a4a4a4a4a4 a4a4a4a4a4a4a4a4 a4a4a4a4a4a4a4a4 a4a4a4a4a4a4a4a4 a4a4a4a4a4a4a4a4\n\
-eval 1 0 g0 c0 c0 c0 1\n\
-send 1 1\n\
-take 0 1\n\
-port host\n\
-in 0 0 0\n\
-print o0\n\
-send 0 0\n\
-take 1 0\n\
-end\n";
-
-/// There is no last line.
-const NO_END: &str = "\
-yse-image 1\n\
-slots 2 units 1 init x columns 1 ports 2\n\
-port logic\n\
-table a4a4a4a4a4a4a4a4 a4a4a4a4a4a4a4a4 a4a4a4a4a4a4a4a4 a4a4a4a4a4a4a4a4 a4a4a4a4a4a4a4a4 a4a4a4a4a4a4a4a4 a4a4a4a4a4a4a4a4 a4a4a4a4a4a4a4a4\n\
-eval 1 0 g0 c0 c0 c0 1\n\
-send 1 1\n\
-take 0 1\n\
-port host\n\
-in 0 0 0\n\
-print g1\n\
-send 0 0\n\
-take 1 0\n";
-
-/// A number begins with a 0.
-const ZERO_FIRST: &str = "\
-yse-image 1\n\
-slots 2 units 1 init x columns 1 ports 2\n\
-port logic\n\
-table a4a4a4a4a4a4a4a4 a4a4a4a4a4a4a4a4 a4a4a4a4a4a4a4a4 a4a4a4a4a4a4a4a4 a4a4a4a4a4a4a4a4 a4a4a4a4a4a4a4a4 a4a4a4a4a4a4a4a4 a4a4a4a4a4a4a4a4\n\
-eval 1 0 g0 c0 c0 c0 01\n\
-send 1 1\n\
-take 0 1\n\
-port host\n\
-in 0 0 0\n\
-print g1\n\
-send 0 0\n\
-take 1 0\n\
-end\n";
-
-/// A number is too large, and there is no last line.
-const TOO_LARGE: &str = "\
-yse-image 1\n\
-slots 2 units 1 init x columns 1 ports 2\n\
-port logic\n\
-table a4a4a4a4a4a4a4a4 a4a4a4a4a4a4a4a4 a4a4a4a4a4a4a4a4 a4a4a4a4a4a4a4a4 a4a4a4a4a4a4a4a4 a4a4a4a4a4a4a4a4 a4a4a4a4a4a4a4a4 a4a4a4a4a4a4a4a4\n\
-eval 1 0 g4294967296 c0 c0 c0 1\n\
-send 1 1\n\
-take 0 1\n\
-port host\n\
-in 0 0 0\n\
-print g1\n\
-send 0 0\n\
-take 1 0\n";
-
-/// The gate has another constant as its second operand.
-const CONST_ONE: &str = "\
-yse-image 1\n\
-slots 2 units 1 init x columns 1 ports 2\n\
-port logic\n\
-table a4a4a4a4a4a4a4a4 a4a4a4a4a4a4a4a4 a4a4a4a4a4a4a4a4 a4a4a4a4a4a4a4a4 a4a4a4a4a4a4a4a4 a4a4a4a4a4a4a4a4 a4a4a4a4a4a4a4a4 a4a4a4a4a4a4a4a4\n\
-eval 1 0 g0 c1 c0 c0 1\n\
-send 1 1\n\
-take 0 1\n\
-port host\n\
-in 0 0 0\n\
-print g1\n\
-send 0 0\n\
-take 1 0\n\
-end\n";
-
-const CONST_UNDEF: &str = "\
-yse-image 1\n\
-slots 2 units 1 init x columns 1 ports 2\n\
-port logic\n\
-table a4a4a4a4a4a4a4a4 a4a4a4a4a4a4a4a4 a4a4a4a4a4a4a4a4 a4a4a4a4a4a4a4a4 a4a4a4a4a4a4a4a4 a4a4a4a4a4a4a4a4 a4a4a4a4a4a4a4a4 a4a4a4a4a4a4a4a4\n\
-eval 1 0 g0 cx c0 c0 1\n\
-send 1 1\n\
-take 0 1\n\
-port host\n\
-in 0 0 0\n\
-print g1\n\
-send 0 0\n\
-take 1 0\n\
-end\n";
-
-const CONST_HIGH: &str = "\
-yse-image 1\n\
-slots 2 units 1 init x columns 1 ports 2\n\
-port logic\n\
-table a4a4a4a4a4a4a4a4 a4a4a4a4a4a4a4a4 a4a4a4a4a4a4a4a4 a4a4a4a4a4a4a4a4 a4a4a4a4a4a4a4a4 a4a4a4a4a4a4a4a4 a4a4a4a4a4a4a4a4 a4a4a4a4a4a4a4a4\n\
-eval 1 0 g0 cz c0 c0 1\n\
-send 1 1\n\
-take 0 1\n\
-port host\n\
-in 0 0 0\n\
-print g1\n\
-send 0 0\n\
-take 1 0\n\
-end\n";
-
-/// Images of the buffer.
 const CASES: &[Case] = &[
-    // The image is written word for word.
+    Case {
+        rows: "\
+=> cycle z\n1 0\n2 1\n\
+|--init 0=> image: timing differs\n",
+        ..EXECUTED
+    },
+    // A file that is missing is told.
+    Case {
+        calls: "exec net.bench net.more other|exec net.bench other net.stim",
+        words: "",
+        rows: "=> read fault: other\n",
+        ..EXECUTED
+    },
+    // An image is one piece: nothing is written where the first write fails.
     Case {
         calls: "compile",
         words: "net.bench --machine net.machine",
-        netlist: NETLIST,
         machine: "logic 1\narray 0\n",
-        output: IMAGE,
-        ..PLAIN
-    },
-    // It is one piece: nothing is written where the first write fails, and there is no second one.
-    Case {
-        calls: "compile",
-        words: "net.bench --machine net.machine",
-        netlist: NETLIST,
-        machine: "logic 1\narray 0\n",
-        failing: (0, 1),
-        status: 4,
-        line: "write fault\n",
-        ..PLAIN
-    },
-    Case {
-        calls: "compile",
-        words: "net.bench --machine net.machine",
-        netlist: NETLIST,
-        machine: "logic 1\narray 0\n",
-        failing: (0, 2),
-        output: IMAGE,
-        ..PLAIN
-    },
-    Case {
-        calls: "exec",
-        words: "net.bench net.more net.stim",
-        netlist: NETLIST,
-        stimulus: ROWS,
-        more: IMAGE,
-        output: TRACE,
-        ..PLAIN
-    },
-    // The input of the last turn.
-    Case {
-        calls: "exec",
-        words: "net.bench net.more net.stim",
-        netlist: NETLIST,
-        stimulus: ROWS,
-        more: LAST_TURN,
-        status: 15,
-        line: "image: port 0 slot 1 does not match\n",
-        ..PLAIN
-    },
-    Case {
-        calls: "exec",
-        words: "net.bench net.more net.stim",
-        netlist: NETLIST,
-        stimulus: ROWS,
-        more: NO_TAKE,
-        status: 15,
-        line: "image: not well formed\n",
-        ..PLAIN
-    },
-    Case {
-        calls: "exec",
-        words: "net.bench net.more net.stim --init 0",
-        netlist: NETLIST,
-        stimulus: ROWS,
-        more: IMAGE,
-        status: 15,
-        line: "image: timing differs\n",
-        ..PLAIN
-    },
-    // Another constant where the gate has no operand.
-    Case {
-        calls: "exec",
-        words: "net.bench net.more net.stim",
-        netlist: NETLIST,
-        stimulus: ROWS,
-        more: CONST_ONE,
-        status: 15,
-        line: "image: port 0 slot 1 does not match\n",
-        ..PLAIN
-    },
-    Case {
-        calls: "exec",
-        words: "net.bench net.more net.stim",
-        netlist: NETLIST,
-        stimulus: ROWS,
-        more: CONST_UNDEF,
-        status: 15,
-        line: "image: port 0 slot 1 does not match\n",
-        ..PLAIN
-    },
-    Case {
-        calls: "exec",
-        words: "net.bench net.more net.stim",
-        netlist: NETLIST,
-        stimulus: ROWS,
-        more: CONST_HIGH,
-        status: 15,
-        line: "image: port 0 slot 1 does not match\n",
-        ..PLAIN
-    },
-    // The input is printed in place of the gate.
-    Case {
-        calls: "exec",
-        words: "net.bench net.more net.stim",
-        netlist: NETLIST,
-        stimulus: ROWS,
-        more: OTHER_PRINT,
-        status: 15,
-        line: "image: column 0 does not match\n",
-        ..PLAIN
-    },
-    Case {
-        calls: "exec",
-        words: "net.bench net.more net.stim",
-        netlist: NETLIST,
-        stimulus: ROWS,
-        more: NO_END,
-        status: 14,
-        line: "image: line 13: syntax\n",
-        ..PLAIN
-    },
-    Case {
-        calls: "exec",
-        words: "net.bench net.more net.stim",
-        netlist: NETLIST,
-        stimulus: ROWS,
-        more: ZERO_FIRST,
-        status: 14,
-        line: "image: line 5: syntax\n",
-        ..PLAIN
-    },
-    Case {
-        calls: "exec",
-        words: "net.bench net.more net.stim",
-        netlist: NETLIST,
-        stimulus: ROWS,
-        more: TOO_LARGE,
-        status: 14,
-        line: "image: line 5: out of range\n",
-        ..PLAIN
-    },
-    // The image is checked before the stimulus is read, and a file that is missing is told.
-    Case {
-        calls: "exec",
-        words: "net.bench net.more other",
-        netlist: NETLIST,
-        stimulus: ROWS,
-        more: NO_TAKE,
-        status: 15,
-        line: "image: not well formed\n",
-        ..PLAIN
-    },
-    Case {
-        calls: "exec",
-        words: "net.bench net.more other",
-        netlist: NETLIST,
-        stimulus: ROWS,
-        more: IMAGE,
-        status: 3,
-        line: "read fault: other\n",
-        ..PLAIN
-    },
-    Case {
-        calls: "exec",
-        words: "net.bench other net.stim",
-        netlist: NETLIST,
-        stimulus: ROWS,
-        more: IMAGE,
-        status: 3,
-        line: "read fault: other\n",
-        ..PLAIN
+        given: Given::FailingWrite,
+        rows: "1=> write fault\n",
+        ..EXECUTED
     },
 ];
+
+/// Lines of the image of the buffer, with `|` between them, what stands there in their place, and the line that
+/// `exec` tells. The gate reads the input of the last turn, or has another constant where it has no operand. The
+/// input is not received, or printed in place of the gate. There is no last line. A number begins with a 0, or is too
+/// large, where there is no last line either.
+const EDITS: &str = "\
+eval 1 0 g0 c0=> eval 1 0 G0 c0=> image: port 0 slot 1 does not match\n\
+|eval 1 0 g0 c0=> eval 1 0 g0 c1=> image: port 0 slot 1 does not match\n\
+|eval 1 0 g0 c0=> eval 1 0 g0 cx=> image: port 0 slot 1 does not match\n\
+|eval 1 0 g0 c0=> eval 1 0 g0 cz=> image: port 0 slot 1 does not match\n\
+|take 0 1\n=> => image: not well formed\n\
+|print g1\n=> print o0\n=> image: column 0 does not match\n\
+|end\n=> => image: line 13: syntax\n\
+|c0 1\n=> c0 01\n=> image: line 5: syntax\n\
+|g0 c0 c0 c0 1\nsend 1 1\ntake 0 1\nport host\nin 0 0 0\nprint g1\nsend 0 0\ntake 1 0\nend\n=> g4294967296 c0 c0 c0 1\nsend 1 1\ntake 0 1\nport host\nin 0 0 0\nprint g1\nsend 0 0\ntake 1 0\n=> image: line 5: out of range\n";
+
+fn edits() -> &'static str {
+    EDITS
+}
+
+/// A text of these parts.
+fn joined(alloc: Global, parts: &[&[u8]]) -> Result<Text, Memory> {
+    let mut text = Text::new(alloc);
+    for part in parts {
+        text.push_bytes(part)?;
+    }
+    Ok(text)
+}
+
+/// Whether a call over the image of the buffer, changed as a row says, tells the row's line.
+fn tells_edited<R: Threads + Wait + Sync>(
+    rt: &R,
+    alloc: Global,
+    call: &str,
+    row: &'static str,
+) -> Result<bool, Memory> {
+    let (old, new, line) = parts_of(row);
+    let (front, rest) = IMAGE.split_once(old).unwrap_or((IMAGE, ""));
+    let parts = [front.as_bytes(), new.as_bytes(), rest.as_bytes()];
+    let image = joined(alloc, &parts)?;
+    let texts = four(NETLIST.as_bytes(), ROWS.as_bytes(), b"", image.as_bytes());
+    let wanted: (u8, &[u8], &[u8]) = (status_of(line), b"", line.as_bytes());
+    Ok(ends(rt, alloc, &[call], &texts, &EASY, wanted))
+}
 
 #[test]
 fn images_of_a_buffer_end_as_stated(rt: HostRuntime) {
     assert!(rt; all_end(&rt, rt.alloc(), CASES));
+    for row in edits().split('|') {
+        let call = "exec net.bench net.more net.stim";
+        assert!(rt; tells_edited(&rt, rt.alloc(), call, row) == Ok(true));
+    }
 }
 
-/// A design: its texts, the options of its timing and homes, the words of an execution, and the trace. The list of its gates is
-/// `net.more` where it is compiled, and `net.machine` where its image is executed.
+/// An image that is not well formed is told before the stimulus is read.
+#[test]
+fn images_are_checked_before_the_stimulus(rt: HostRuntime) {
+    let (call, row) = (
+        "exec net.bench net.more other",
+        "take 0 1\n=> => image: not well formed\n",
+    );
+    assert!(rt; tells_edited(&rt, rt.alloc(), call, row) == Ok(true));
+}
+
+/// The image is written word for word, and is one piece: there is no second write that could fail.
+#[test]
+fn image_of_a_buffer(rt: HostRuntime) {
+    let call = "compile net.bench --machine net.machine";
+    let texts = four(NETLIST.as_bytes(), b"", b"logic 1\narray 0\n", b"");
+    let edges = Edges {
+        failing_write: 2,
+        ..EASY
+    };
+    let wanted: (u8, &[u8], &[u8]) = (0, IMAGE.as_bytes(), b"");
+    assert!(rt; ends(&rt, rt.alloc(), &[call], &texts, &edges, wanted));
+}
+
+/// A design: its texts, the call that compiles it, the options of its timing, and the trace of its execution. The
+/// machine is `net.more` where it is compiled, where its image is when it is executed, and the list of its gates is
+/// `net.machine`.
 #[derive(Clone, Copy)]
 struct Design {
     netlist: &'static str,
     machine: &'static str,
     list: &'static str,
     stimulus: &'static str,
+    compile: &'static str,
     options: &'static str,
-    exec: &'static str,
     trace: &'static str,
 }
 
@@ -370,90 +162,79 @@ const BUFFER: Design = Design {
     machine: "logic 1\narray 0\n",
     list: "",
     stimulus: ROWS,
+    compile: "compile net.bench --machine net.more",
     options: "",
-    exec: "net.bench net.more net.stim",
-    trace: TRACE,
+    trace: "cycle z\n1 0\n2 1\n",
 };
 
 const GATES_ALONE: Design = Design {
     netlist: C17,
     machine: "logic 2\n",
-    list: "",
     stimulus: "11111\n00000\nxxxxx\n",
-    options: "",
-    exec: "net.bench net.more net.stim",
     trace: "cycle 22 23\n1 10\n2 00\n3 xx\n",
+    ..BUFFER
 };
 
 const REGISTERS: Design = Design {
     netlist: S27,
     machine: "logic 2\n",
-    list: "",
     stimulus: "0000\n0001\n0000\n1000\n0001\n",
     options: "--init 0",
-    exec: "net.bench net.more net.stim --init 0",
     trace: "cycle G17\n1 1\n2 0\n3 0\n4 1\n5 1\n",
+    ..BUFFER
 };
 
 const TOGGLE: Design = Design {
     netlist: "OUTPUT(q)\nn = NOT(q)\nq = DFF(n)\n",
-    machine: "logic 2\n",
-    list: "",
     stimulus: "- * 4\n",
-    options: "--init 0",
-    exec: "net.bench net.more net.stim --init 0",
     trace: "cycle q\n1 0\n2 1\n3 0\n4 1\n",
+    ..REGISTERS
 };
 
 const MEMORY: Design = Design {
     netlist: RAM,
     machine: "",
-    list: "",
     stimulus: "1101\n0100\n0100\n1100\n0100\n0100\n",
-    options: "",
-    exec: "net.bench net.more net.stim",
     trace: "cycle q\n1 x\n2 x\n3 1\n4 1\n5 1\n6 0\n",
+    ..BUFFER
 };
 
 const WIDE_GATE: Design = Design {
     netlist: WIDE,
     machine: "",
-    list: "",
     stimulus: "11111111111111111\n11111111111111110\n",
     options: "--mode unit --units 2",
-    exec: "net.bench net.more net.stim --mode unit --units 2",
     trace: "cycle z\n1 1\n2 0\n",
+    ..BUFFER
 };
 
 const LOOP: Design = Design {
     netlist: LATCH,
     machine: "",
-    list: "",
     stimulus: "01\n11\n10\n",
     options: "--mode unit --units 4",
-    exec: "net.bench net.more net.stim --mode unit --units 4",
     trace: "cycle q p\n1 10\n2 10\n3 01\n",
+    ..BUFFER
 };
 
 const LISTED: Design = Design {
-    netlist: LATCH,
     machine: "version 2\nlogic 2\nnodes 0 1\n",
     list: "q\n",
-    stimulus: "01\n11\n10\n",
-    options: "--mode mixed --last net.more --units 2",
-    exec: "net.bench net.more net.stim --mode mixed --last net.machine --units 2",
-    trace: "cycle q p\n1 10\n2 10\n3 01\n",
+    options: "--mode mixed --last net.machine --units 2",
+    ..LOOP
 };
 
 const BETTER: Design = Design {
-    netlist: C17,
     machine: "version 2\nlogic 2\nnodes 1 3\n",
-    list: "",
-    stimulus: "11111\n00000\nxxxxx\n",
-    options: "--homes better",
-    exec: "net.bench net.more net.stim",
-    trace: "cycle 22 23\n1 10\n2 00\n3 xx\n",
+    compile: "compile net.bench --machine net.more --homes better",
+    ..GATES_ALONE
 };
+
+/// The texts of a call over a design, whose file `net.more` has these bytes.
+fn texts_over<'a>(design: &Design, more: &'a [u8]) -> Texts<'a> {
+    let (netlist, stimulus) = (design.netlist.as_bytes(), design.stimulus.as_bytes());
+    four(netlist, stimulus, design.list.as_bytes(), more)
+}
 
 /// The call that compiles a design.
 fn compile_of<R: Threads + Wait + Sync>(
@@ -461,21 +242,13 @@ fn compile_of<R: Threads + Wait + Sync>(
     alloc: Global,
     design: &Design,
 ) -> Result<Ended, Memory> {
-    let lines = ["compile net.bench --machine net.machine", design.options];
-    let (netlist, machine) = (design.netlist.as_bytes(), design.machine.as_bytes());
-    let texts = [netlist, b"", machine, design.list.as_bytes()];
-    end_of(rt, alloc, &lines, &texts, &EASY)
-}
-
-/// The texts of an execution.
-fn texts_with<'a>(design: &Design, image: &'a [u8]) -> Texts<'a> {
-    let (netlist, stimulus) = (design.netlist.as_bytes(), design.stimulus.as_bytes());
-    four(netlist, stimulus, design.list.as_bytes(), image)
+    let texts = texts_over(design, design.machine.as_bytes());
+    end_of(rt, alloc, &[design.compile, design.options], &texts, &EASY)
 }
 
 /// Executions with so many workers and banks.
 const EXECS: &str =
-    "exec --workers 1 --banks 1|exec --workers 1 --banks 2|exec --workers 1 --banks 8|exec --workers 2 --banks 1|exec --workers 2 --banks 2|exec --workers 2 --banks 8|exec --workers 7 --banks 1|exec --workers 7 --banks 2|exec --workers 7 --banks 8|exec --workers 64 --banks 1|exec --workers 64 --banks 2|exec --workers 64 --banks 8";
+    "exec net.bench net.more net.stim --workers 1 --banks 1|exec net.bench net.more net.stim --workers 1 --banks 2|exec net.bench net.more net.stim --workers 1 --banks 8|exec net.bench net.more net.stim --workers 2 --banks 1|exec net.bench net.more net.stim --workers 2 --banks 2|exec net.bench net.more net.stim --workers 2 --banks 8|exec net.bench net.more net.stim --workers 7 --banks 1|exec net.bench net.more net.stim --workers 7 --banks 2|exec net.bench net.more net.stim --workers 7 --banks 8|exec net.bench net.more net.stim --workers 64 --banks 1|exec net.bench net.more net.stim --workers 64 --banks 2|exec net.bench net.more net.stim --workers 64 --banks 8";
 
 /// Whether what is compiled of a design is run by any number of workers, and with any number of banks.
 fn is_run_by_all<R: Threads + Wait + Sync>(
@@ -484,11 +257,9 @@ fn is_run_by_all<R: Threads + Wait + Sync>(
     design: &Design,
 ) -> Result<bool, Memory> {
     let compiled = compile_of(rt, alloc, design)?;
-    let texts = texts_with(design, compiled.out.taken());
+    let texts = texts_over(design, compiled.out.taken());
     let trace = design.trace.as_bytes();
-    let printed = all_print(rt, alloc, EXECS, design.exec, &texts, trace);
-    drop(compiled);
-    Ok(printed)
+    Ok(all_print(rt, alloc, EXECS, design.options, &texts, trace))
 }
 
 const DESIGNS: &[Design] = &[
@@ -513,75 +284,26 @@ fn images_print_the_trace(rt: HostRuntime) {
     }
 }
 
-/// Whether an image's text, whatever it is, makes a call print the design's trace, or nothing and end with 14 or 15.
+/// Whether an image of these parts, whatever they are, makes a call print the design's trace, or nothing and end with
+/// 14 or 15.
 fn is_harmless<R: Threads + Wait + Sync>(
-    rt: &R,
-    alloc: Global,
-    design: &Design,
-    image: &[u8],
-) -> Result<bool, Memory> {
-    let lines = ["exec --workers 1", design.exec];
-    let ended = end_of(rt, alloc, &lines, &texts_with(design, image), &EASY)?;
-    let harmless = match ended.status {
-        0 => ended.out.taken() == design.trace.as_bytes(),
-        14 | 15 => ended.out.taken().is_empty(),
-        _ => false,
-    };
-    drop(ended);
-    Ok(harmless)
-}
-
-/// The same of the parts of a text.
-fn are_harmless<R: Threads + Wait + Sync>(
     rt: &R,
     alloc: Global,
     design: &Design,
     parts: &[&[u8]],
 ) -> Result<bool, Memory> {
-    let mut text = Text::new(alloc);
-    for part in parts {
-        text.push_bytes(part)?;
-    }
-    let harmless = is_harmless(rt, alloc, design, text.as_bytes());
-    drop(text);
-    harmless
-}
-
-/// The places of a text from which on and up to which its line `nth`, counted from 0, stands with its end.
-fn line_at(text: &[u8], nth: usize) -> Option<(usize, usize)> {
-    let mut count = 0usize;
-    let mut from = 0usize;
-    for (place, byte) in text.iter().enumerate() {
-        if *byte == b'\n' {
-            let end = place.saturating_add(1);
-            if count == nth {
-                return Some((from, end));
-            }
-            count = count.saturating_add(1);
-            from = end;
-        }
-    }
-    None
-}
-
-/// The places of a text from which on and up to which its number `nth`, counted from 0, has its digits.
-fn number_at(text: &[u8], nth: usize) -> Option<(usize, usize)> {
-    let mut count = 0usize;
-    let mut begin = None;
-    for (place, byte) in text.iter().enumerate() {
-        match (begin, byte.is_ascii_digit()) {
-            (None, true) => begin = Some(place),
-            (Some(from), false) => {
-                if count == nth {
-                    return Some((from, place));
-                }
-                count = count.saturating_add(1);
-                begin = None;
-            }
-            _ => {}
-        }
-    }
-    None
+    let image = joined(alloc, parts)?;
+    let lines = [
+        "exec net.bench net.more net.stim --workers 1",
+        design.options,
+    ];
+    let texts = texts_over(design, image.as_bytes());
+    let ended = end_of(rt, alloc, &lines, &texts, &EASY)?;
+    Ok(match ended.status {
+        0 => ended.out.taken() == design.trace.as_bytes(),
+        14 | 15 => ended.out.taken().is_empty(),
+        _ => false,
+    })
 }
 
 fn value_of(digits: &[u8]) -> u64 {
@@ -600,19 +322,41 @@ fn cut(text: &[u8], places: (usize, usize)) -> (&[u8], &[u8], &[u8]) {
     (front, middle, rest)
 }
 
-/// Whether a design's image is harmless with the line at these places deleted, doubled, or swapped with the next one.
+/// Whether an image is harmless with its line at these places deleted, doubled, or swapped with the one before it,
+/// which begins at `before`.
 fn is_harmless_at_line<R: Threads + Wait + Sync>(
     rt: &R,
     alloc: Global,
     design: &Design,
     image: &[u8],
+    before: usize,
     places: (usize, usize),
 ) -> bool {
     let (front, line, rest) = cut(image, places);
-    let (_, next, last) = cut(rest, line_at(rest, 0).unwrap_or((0, 0)));
-    are_harmless(rt, alloc, design, &[front, rest]) == Ok(true)
-        && are_harmless(rt, alloc, design, &[front, line, line, rest]) == Ok(true)
-        && are_harmless(rt, alloc, design, &[front, next, line, last]) == Ok(true)
+    let (head, last, _) = cut(front, (before, places.0));
+    is_harmless(rt, alloc, design, &[front, rest]) == Ok(true)
+        && is_harmless(rt, alloc, design, &[front, line, line, rest]) == Ok(true)
+        && is_harmless(rt, alloc, design, &[head, line, last, rest]) == Ok(true)
+}
+
+/// Whether it is, however any of its lines is changed.
+fn is_harmless_by_line<R: Threads + Wait + Sync>(
+    rt: &R,
+    alloc: Global,
+    design: &Design,
+    image: &[u8],
+) -> bool {
+    let (mut before, mut from) = (0usize, 0usize);
+    for (place, byte) in image.iter().enumerate() {
+        if *byte == b'\n' {
+            let end = place.saturating_add(1);
+            if !is_harmless_at_line(rt, alloc, design, image, before, (from, end)) {
+                return false;
+            }
+            (before, from) = (from, end);
+        }
+    }
+    true
 }
 
 /// Whether an image is harmless with this number between these parts.
@@ -625,12 +369,10 @@ fn is_harmless_with<R: Threads + Wait + Sync>(
     rest: &[u8],
 ) -> Result<bool, Memory> {
     let digits = format!(in alloc; "{value}")?;
-    let harmless = are_harmless(rt, alloc, design, &[front, digits.as_bytes(), rest]);
-    drop(digits);
-    harmless
+    is_harmless(rt, alloc, design, &[front, digits.as_bytes(), rest])
 }
 
-/// Whether a design's image is harmless with the number at these places one more, or one less.
+/// Whether an image is harmless with its number at these places one more, or one less.
 fn is_harmless_at_number<R: Threads + Wait + Sync>(
     rt: &R,
     alloc: Global,
@@ -644,6 +386,29 @@ fn is_harmless_at_number<R: Threads + Wait + Sync>(
         && is_harmless_with(rt, alloc, design, front, value.saturating_sub(1), rest) == Ok(true)
 }
 
+/// Whether it is, however any of its numbers is changed.
+fn is_harmless_by_number<R: Threads + Wait + Sync>(
+    rt: &R,
+    alloc: Global,
+    design: &Design,
+    image: &[u8],
+) -> bool {
+    let mut begin = None;
+    for (place, byte) in image.iter().enumerate() {
+        match (begin, byte.is_ascii_digit()) {
+            (None, true) => begin = Some(place),
+            (Some(from), false) => {
+                if !is_harmless_at_number(rt, alloc, design, image, (from, place)) {
+                    return false;
+                }
+                begin = None;
+            }
+            _ => {}
+        }
+    }
+    true
+}
+
 /// What an image is changed at.
 #[derive(Clone, Copy)]
 enum Change {
@@ -651,46 +416,7 @@ enum Change {
     Numbers,
 }
 
-/// Whether an image is harmless however its line, or its number, `nth` is changed; nothing where it has none.
-fn is_harmless_at<R: Threads + Wait + Sync>(
-    rt: &R,
-    alloc: Global,
-    design: &Design,
-    image: &[u8],
-    change: Change,
-    nth: usize,
-) -> Option<bool> {
-    match change {
-        Change::Lines => {
-            let places = line_at(image, nth)?;
-            Some(is_harmless_at_line(rt, alloc, design, image, places))
-        }
-        Change::Numbers => {
-            let places = number_at(image, nth)?;
-            Some(is_harmless_at_number(rt, alloc, design, image, places))
-        }
-    }
-}
-
-/// Whether an image is harmless however any of its lines, or of its numbers, is changed.
-fn is_harmless_changed<R: Threads + Wait + Sync>(
-    rt: &R,
-    alloc: Global,
-    design: &Design,
-    image: &[u8],
-    change: Change,
-) -> bool {
-    for nth in 0..image.len() {
-        match is_harmless_at(rt, alloc, design, image, change, nth) {
-            Some(true) => {}
-            Some(false) => return false,
-            None => return true,
-        }
-    }
-    true
-}
-
-/// Whether what is compiled of a design is.
+/// Whether what is compiled of a design is harmless however it is changed so.
 fn withstands<R: Threads + Wait + Sync>(
     rt: &R,
     alloc: Global,
@@ -698,10 +424,12 @@ fn withstands<R: Threads + Wait + Sync>(
     change: Change,
 ) -> Result<bool, Memory> {
     let compiled = compile_of(rt, alloc, design)?;
-    let harmless = is_harmless_changed(rt, alloc, design, compiled.out.taken(), change);
-    let right = compiled.status == 0 && harmless;
-    drop(compiled);
-    Ok(right)
+    let image = compiled.out.taken();
+    let harmless = match change {
+        Change::Lines => is_harmless_by_line(rt, alloc, design, image),
+        Change::Numbers => is_harmless_by_number(rt, alloc, design, image),
+    };
+    Ok(compiled.status == 0 && harmless)
 }
 
 const CHANGES: &[(Design, Change)] = &[

@@ -1,16 +1,20 @@
 //! Runs in given orders: those that suffice, those that end before the run does, and the banks by which ports may run
 //! ahead.
 
-use super::{C17, Case, EASY, PLAIN, RAM, S27, Texts, all_end, all_print, end_of, texts_of};
+use super::{C17, Case, Given, PLAIN, RAM, S27, Texts, all_end, all_print_reference};
 use seen_list::{Memory, Text};
 use std::alloc::Global;
 use std::marker::Sync;
 use std::sync::Wait;
 use std::thread::Threads;
 
-const ORDERED: &str = "net.bench net.stim --machine net.machine --order net.more";
-
-const C17_ROWS: &str = "11111\n00000\nxxxxx\n";
+/// Over an order, which rows give.
+const ORDERED: Case = Case {
+    calls: "order",
+    words: "net.bench net.stim --machine net.machine --order net.more",
+    given: Given::More,
+    ..PLAIN
+};
 
 /// Ports 0 and 1 are logic, 2 is the array, 3 the host.
 const TWO_LOGIC: &str = "logic 2\n";
@@ -23,72 +27,34 @@ const CASES: &[Case] = &[
     // C17: an order that suffices, and the same without its last line.
     Case {
         calls: "order --banks 1",
-        words: ORDERED,
         netlist: C17,
-        stimulus: C17_ROWS,
+        stimulus: "11111\n00000\nxxxxx\n",
         machine: TWO_LOGIC,
-        more: "2 * 1000\n3 * 1000\n1 * 1000\n0 * 1000\n1 * 1000\n3 * 1000\n1 * 1000\n0 * 1000\n1 * 1000\n3 * 1000\n1 * 1000\n0 * 1000\n1 * 1000\n3 * 1000\n",
-        output: "cycle 22 23\n1 10\n2 00\n3 xx\n",
-        ..PLAIN
-    },
-    Case {
-        calls: "order --banks 1",
-        words: ORDERED,
-        netlist: C17,
-        stimulus: C17_ROWS,
-        machine: TWO_LOGIC,
-        more: "2 * 1000\n3 * 1000\n1 * 1000\n0 * 1000\n1 * 1000\n3 * 1000\n1 * 1000\n0 * 1000\n1 * 1000\n3 * 1000\n1 * 1000\n0 * 1000\n1 * 1000\n",
-        status: 11,
-        output: "cycle 22 23\n1 10\n2 00\n",
-        line: "order: ended with 2 of 3 rows done\n",
-        ..PLAIN
+        rows: "\
+2 * 1000\n3 * 1000\n1 * 1000\n0 * 1000\n1 * 1000\n3 * 1000\n1 * 1000\n0 * 1000\n1 * 1000\n3 * 1000\n1 * 1000\n0 * 1000\n1 * 1000\n3 * 1000\n=> cycle 22 23\n1 10\n2 00\n3 xx\n\
+|2 * 1000\n3 * 1000\n1 * 1000\n0 * 1000\n1 * 1000\n3 * 1000\n1 * 1000\n0 * 1000\n1 * 1000\n3 * 1000\n1 * 1000\n0 * 1000\n1 * 1000\n=> cycle 22 23\n1 10\n2 00\n=> order: ended with 2 of 3 rows done\n",
+        ..ORDERED
     },
     // The host alone: it runs ahead of its reader by as many turns as there are banks.
     Case {
-        calls: "order --banks 1",
-        words: ORDERED,
         netlist: BUFFER,
         stimulus: "0\n1\n0\n",
         machine: ONE_LOGIC,
         more: "1 * 100\n",
-        status: 11,
-        output: "cycle a\n1 0\n",
-        line: "order: ended with 1 of 3 rows done\n",
-        ..PLAIN
-    },
-    Case {
-        calls: "order --banks 2",
-        words: ORDERED,
-        netlist: BUFFER,
-        stimulus: "0\n1\n0\n",
-        machine: ONE_LOGIC,
-        more: "1 * 100\n",
-        status: 11,
-        output: "cycle a\n1 0\n2 1\n",
-        line: "order: ended with 2 of 3 rows done\n",
-        ..PLAIN
+        given: Given::Words,
+        rows: "\
+--banks 1=> cycle a\n1 0\n=> order: ended with 1 of 3 rows done\n\
+|--banks 2=> cycle a\n1 0\n2 1\n=> order: ended with 2 of 3 rows done\n\
+|--banks 3=> cycle a\n1 0\n2 1\n3 0\n=> order: ended with 3 of 3 rows done\n",
+        ..ORDERED
     },
     Case {
         calls: "order --banks 3",
-        words: ORDERED,
         netlist: BUFFER,
         stimulus: "0\n1\n0\n",
         machine: ONE_LOGIC,
-        more: "1 * 100\n",
-        status: 11,
-        output: "cycle a\n1 0\n2 1\n3 0\n",
-        line: "order: ended with 3 of 3 rows done\n",
-        ..PLAIN
-    },
-    Case {
-        calls: "order --banks 3",
-        words: ORDERED,
-        netlist: BUFFER,
-        stimulus: "0\n1\n0\n",
-        machine: ONE_LOGIC,
-        more: "1 * 100\n0 * 100\n",
-        output: "cycle a\n1 0\n2 1\n3 0\n",
-        ..PLAIN
+        rows: "1 * 100\n0 * 100\n=> cycle a\n1 0\n2 1\n3 0\n",
+        ..ORDERED
     },
 ];
 
@@ -131,12 +97,11 @@ fn designs() -> &'static [(&'static str, &'static str)] {
 /// Runs with so many banks.
 const BANKS: &str = "order --init=0 --banks 1|order --init=0 --banks 2|order --init=0 --banks 8";
 
-/// Whether runs in a drawn order, with so many banks each, print this.
+/// Whether runs in a drawn order, with so many banks each, print what the reference simulation does.
 fn print_in_drawn_order<R: Threads + Wait + Sync>(
     rt: &R,
     alloc: Global,
     design: &(&str, &str),
-    output: &[u8],
 ) -> Result<bool, Memory> {
     let order = drawn(alloc, 11, 4000)?;
     let texts: Texts<'_> = [
@@ -145,34 +110,13 @@ fn print_in_drawn_order<R: Threads + Wait + Sync>(
         TWO_LOGIC.as_bytes(),
         order.as_bytes(),
     ];
-    let printed = all_print(rt, alloc, BANKS, ORDERED, &texts, output);
-    drop(order);
-    Ok(printed)
-}
-
-/// Whether they print what the reference simulation does.
-fn print_the_reference<R: Threads + Wait + Sync>(
-    rt: &R,
-    alloc: Global,
-    design: &(&str, &str),
-) -> Result<bool, Memory> {
-    let texts = texts_of(design.0, design.1);
-    let reference = end_of(
-        rt,
-        alloc,
-        &["refer net.bench net.stim --init 0"],
-        &texts,
-        &EASY,
-    )?;
-    let printed = print_in_drawn_order(rt, alloc, design, reference.out.taken());
-    let right = reference.status == 0 && printed == Ok(true);
-    drop(reference);
-    Ok(right)
+    let refer = "refer net.bench net.stim --init 0";
+    all_print_reference(rt, alloc, refer, BANKS, ORDERED.words, &texts)
 }
 
 #[test]
 fn drawn_orders_print_the_reference(rt: HostRuntime) {
     for design in designs() {
-        assert!(rt; print_the_reference(&rt, rt.alloc(), design) == Ok(true));
+        assert!(rt; print_in_drawn_order(&rt, rt.alloc(), design) == Ok(true));
     }
 }

@@ -54,18 +54,24 @@ struct PackCase {
     words: &'static str,
 }
 
+const NO_LANES: PackCase = PackCase {
+    netlist: "",
+    lanes: &[],
+    list: "",
+    words: FILES,
+};
+
 const CASES: &[PackCase] = &[
     PackCase {
         netlist: C17,
         lanes: THIRTY,
-        list: "",
-        words: FILES,
+        ..NO_LANES
     },
     PackCase {
         netlist: C17,
         lanes: &["11111 * 40\n"],
-        list: "",
         words: "net.bench net.stim --mode unit --units 3",
+        ..NO_LANES
     },
     PackCase {
         netlist: S27,
@@ -75,14 +81,13 @@ const CASES: &[PackCase] = &[
             "1111 * 20\n0x01\n",
             "0010\n",
         ],
-        list: "",
         words: "net.bench net.stim --init 0",
+        ..NO_LANES
     },
     PackCase {
         netlist: BUS,
         lanes: &["1000\n1001\n1010\n1110\n", "1011\n0000\nx000\n1100\nz1zz\n"],
-        list: "",
-        words: FILES,
+        ..NO_LANES
     },
     // Each lane has its own words of a memory, of one bit and of 64.
     PackCase {
@@ -92,8 +97,7 @@ const CASES: &[PackCase] = &[
             "0000\n1x01\n0000\n0000\n",
             "0000\n0x01\n0000\n0000\n",
         ],
-        list: "",
-        words: FILES,
+        ..NO_LANES
     },
     PackCase {
         netlist: WORDS,
@@ -102,21 +106,22 @@ const CASES: &[PackCase] = &[
             "000\n100\n000\n",
             "1x1\n000\n000\n",
         ],
-        list: "",
         words: "net.bench net.stim --init 0",
+        ..NO_LANES
     },
     // A loop in unit delay, and cut by one listed gate.
     PackCase {
         netlist: LATCH,
         lanes: &["01\n11\n10\n", "10\n11 * 18\n"],
-        list: "",
         words: "net.bench net.stim --mode unit --units 4",
+        ..NO_LANES
     },
     PackCase {
         netlist: LATCH,
         lanes: &["01\n11\n10\n", "10\n11 * 18\n"],
         list: "q\n",
         words: "net.bench net.stim --mode mixed --last net.more --units 2",
+        ..NO_LANES
     },
 ];
 
@@ -150,17 +155,13 @@ fn push_trace<R: Threads + Wait + Sync>(
 ) -> Result<(), Memory> {
     let texts = texts_with(case, stimulus.as_bytes());
     let ended = end_of(rt, alloc, &["refer", case.words], &texts, &EASY)?;
-    let pushed = text.push_bytes(ended.out.taken());
-    drop(ended);
-    pushed
+    text.push_bytes(ended.out.taken())
 }
 
 /// Adds the line that begins a lane, with its number.
 fn push_mark(alloc: Global, text: &mut Text, lane: usize) -> Result<(), Memory> {
     let mark = format!(in alloc; "lane {lane}\n")?;
-    let pushed = text.push_bytes(mark.as_bytes());
-    drop(mark);
-    pushed
+    text.push_bytes(mark.as_bytes())
 }
 
 /// What the lanes are to print: of each its number, and what `refer` prints of its stimulus.
@@ -188,9 +189,7 @@ fn print_lanes<R: Threads + Wait + Sync>(
 ) -> Result<bool, Memory> {
     let lanes = lanes_text(alloc, case.lanes)?;
     let texts = texts_with(case, lanes.as_bytes());
-    let printed = all_print(rt, alloc, CALLS, case.words, &texts, wanted);
-    drop(lanes);
-    Ok(printed)
+    Ok(all_print(rt, alloc, CALLS, case.words, &texts, wanted))
 }
 
 /// Whether each call prints the references of a case.
@@ -200,9 +199,7 @@ fn print_references<R: Threads + Wait + Sync>(
     case: &PackCase,
 ) -> Result<bool, Memory> {
     let wanted = references(rt, alloc, case)?;
-    let printed = print_lanes(rt, alloc, case, wanted.as_bytes());
-    drop(wanted);
-    printed
+    print_lanes(rt, alloc, case, wanted.as_bytes())
 }
 
 #[test]

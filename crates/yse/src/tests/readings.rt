@@ -1,34 +1,8 @@
 //! What is read of texts: of netlists as `show` prints them, of stimuli and lanes as inputs that are printed, and of
-//! orders for a run of no cycles; or the refusal. Images that are refused. And images of netlists, whose settings of the switch were worked out by
-//! hand.
+//! orders for a run of no cycles; or the refusal. Images that are refused. And images of netlists, whose settings of
+//! the switch were worked out by hand.
 
-use super::{EASY, Texts, ends};
-use std::alloc::Global;
-use std::marker::Sync;
-use std::sync::Wait;
-use std::thread::Threads;
-
-/// The file that a text is: a fourth one is an order or an image.
-#[derive(Clone, Copy)]
-enum Place {
-    Netlist,
-    Stimulus,
-    Machine,
-    More,
-}
-
-/// A call, its netlist and its machine, what its texts are, and how a refusal begins and its status. Then texts, with `|`
-/// between them, and behind `=>` what each comes to.
-#[derive(Clone, Copy)]
-struct Reading {
-    call: &'static str,
-    netlist: &'static str,
-    machine: &'static str,
-    place: Place,
-    refusal: &'static str,
-    status: u8,
-    cases: &'static str,
-}
+use super::{Case, Given, PLAIN, all_end};
 
 /// Inputs that are printed.
 const FIVE: &str =
@@ -36,18 +10,15 @@ const FIVE: &str =
 
 const ONE: &str = "INPUT(a)\nOUTPUT(a)\n";
 
-const READINGS: &[Reading] = &[
+const CASES: &[Case] = &[
     // First stand netlists: words as names, any letter case, forward references, CRLF, comments with any byte, blanks
-    // anywhere, a last line without its LF, and a name of 255 bytes. A CR is a bad byte unless LF or the end of the text
-    // comes next. Of a bad byte and a name of 256 bytes the first is told.
-    Reading {
-        call: "show net.bench",
-        netlist: "",
-        machine: "",
-        place: Place::Netlist,
-        refusal: "netlist: ",
-        status: 5,
-        cases: "\
+    // anywhere, a last line without its LF, and a name of 255 bytes. A CR is a bad byte unless LF or the end of the
+    // text comes next. Of a bad byte and a name of 256 bytes the first is told.
+    Case {
+        calls: "show",
+        words: "net.bench",
+        given: Given::Netlist,
+        rows: "\
 => \
 |output(z)\nz=buf(a)\ninput(a)\n=> INPUT(a)\nOUTPUT(z)\nz = BUFF(a)\n\
 |INPUT(INPUT)\r\nAND = OR(INPUT, b) # \u{ff}\r\n\r\nb=nand\t( INPUT ,INPUT)\r\n#\r=> INPUT(INPUT)\nAND = OR(INPUT, b)\nb = NAND(INPUT, INPUT)\n\
@@ -85,16 +56,13 @@ const READINGS: &[Reading] = &[
 |a\r\r\n=> netlist: line 1, column 2: bad byte\n\
 |# \u{ff}\r\n\u{e9}=> netlist: line 2, column 1: bad byte\n\
 |\n\n \x7f=> netlist: line 3, column 2: bad byte\n",
+        ..PLAIN
     },
     // Rows of five values, and of none.
-    Reading {
-        call: "refer net.bench net.stim",
+    Case {
+        calls: "refer",
         netlist: FIVE,
-        machine: "",
-        place: Place::Stimulus,
-        refusal: "stimulus: ",
-        status: 9,
-        cases: "\
+        rows: "\
 11111\n00000\nxxxxx\n=> cycle a b c d e\n1 11111\n2 00000\n3 xxxxx\n\
 |=> cycle a b c d e\n\
 | 1 x\tX zZ*\t000000000000000000000003 # \u{ff}\r\n\n \t# 9\n0 0000\r=> cycle a b c d e\n1 1xxzz\n2 1xxzz\n3 1xxzz\n4 00000\n\
@@ -108,44 +76,34 @@ const READINGS: &[Reading] = &[
 |11111\n1\n2=> stimulus: line 2: 1 values, 5 wanted\n\
 |* 3=> stimulus: line 1: 0 values, 5 wanted\n\
 |-=> stimulus: line 1: bad character\n",
+        ..PLAIN
     },
-    Reading {
-        call: "refer net.bench net.stim",
-        netlist: "",
-        machine: "",
-        place: Place::Stimulus,
-        refusal: "stimulus: ",
-        status: 9,
-        cases: "\
+    Case {
+        calls: "refer",
+        rows: "\
 - * 2=> cycle\n1 \n2 \n\
 |0=> stimulus: line 1: bad character\n\
 |* 3=> stimulus: line 1: 0 values, 1 wanted\n\
 |- -=> stimulus: line 1: 2 values, 1 wanted\n",
+        ..PLAIN
     },
     // Lanes of rows of five values, of one, and of none.
-    Reading {
-        call: "pack net.bench net.stim",
+    Case {
+        calls: "pack",
         netlist: FIVE,
-        machine: "",
-        place: Place::Stimulus,
-        refusal: "stimulus: ",
-        status: 9,
-        cases: "\
+        rows: "\
 lane\n11111\n00000\nlane\nxxxxx\n=> lane 1\ncycle a b c d e\n1 11111\n2 00000\nlane 2\ncycle a b c d e\n1 xxxxx\n\
 |=> \
 |# none\n\n \t\r\n=> \
 |11111=> stimulus: line 1: no lane\n\
 |# 1\n\n112\nlane\n=> stimulus: line 3: no lane\n\
 |lane\n11111\nlane\n1\n2=> stimulus: line 4: 1 values, 5 wanted\n",
+        ..PLAIN
     },
-    Reading {
-        call: "pack net.bench net.stim",
+    Case {
+        calls: "pack",
         netlist: ONE,
-        machine: "",
-        place: Place::Stimulus,
-        refusal: "stimulus: ",
-        status: 9,
-        cases: "\
+        rows: "\
 lane\n1 * 2\nlane\n0 * 2=> lane 1\ncycle a\n1 1\n2 1\nlane 2\ncycle a\n1 0\n2 0\n\
 |lane * 2\n=> stimulus: line 1: no lane\n\
 |Lane\n=> stimulus: line 1: no lane\n\
@@ -157,26 +115,21 @@ lane\n1 * 2\nlane\n0 * 2=> lane 1\ncycle a\n1 1\n2 1\nlane 2\ncycle a\n1 0\n2 0\
 |lane\nlane\nlane\nlane\nlane\nlane\nlane\nlane\nlane\nlane\nlane\nlane\nlane\nlane\nlane\nlane\nlane\nlane\nlane\nlane\nlane\nlane\nlane\nlane\nlane\nlane\nlane\nlane\nlane\nlane\n\nlane\n2\n=> stimulus: line 32: more than 30 lanes\n\
 |lane\nlane\n1\n0 0\nlane\n=> stimulus: line 4: 2 values, 1 wanted\n\
 |lane\n0 * 1000000\n1 * 1000000\n=> stimulus: too many cycles\n",
+        ..PLAIN
     },
-    Reading {
-        call: "pack net.bench net.stim",
-        netlist: "",
-        machine: "",
-        place: Place::Stimulus,
-        refusal: "stimulus: ",
-        status: 9,
-        cases: "\
+    Case {
+        calls: "pack",
+        rows: "\
 # two\n \tlane # one\r\n\nlane\n- * 2\n# lane\n=> lane 1\ncycle\nlane 2\ncycle\n1 \n2 \n",
+        ..PLAIN
     },
     // Orders of four ports, and of two.
-    Reading {
-        call: "order net.bench net.stim --machine net.machine --order net.more",
-        netlist: "",
+    Case {
+        calls: "order",
+        words: "net.bench net.stim --machine net.machine --order net.more",
         machine: "logic 2\n",
-        place: Place::More,
-        refusal: "order: ",
-        status: 12,
-        cases: "\
+        given: Given::More,
+        rows: "\
 => cycle\n\
 |2*1000\n3 * 1000=> cycle\n\
 | 00000000000000000000003\t* 000000000000000000001000000 # \u{ff}\r\n\n \t# 9\n\t1\r=> cycle\n\
@@ -193,27 +146,24 @@ lane\n1 * 2\nlane\n0 * 2=> lane 1\ncycle a\n1 1\n2 1\nlane 2\ncycle a\n1 0\n2 0\
 |-1=> order: line 1: syntax\n\
 |4\nx=> order: line 1: no such port\n\
 |x\n4=> order: line 1: syntax\n",
+        ..PLAIN
     },
-    Reading {
-        call: "order net.bench net.stim --machine net.machine --order net.more",
-        netlist: "",
+    Case {
+        calls: "order",
+        words: "net.bench net.stim --machine net.machine --order net.more",
         machine: "logic 1\narray 0\n",
-        place: Place::More,
-        refusal: "order: ",
-        status: 12,
-        cases: "\
+        given: Given::More,
+        rows: "\
 1 * 100\n0 * 100\n=> cycle\n",
+        ..PLAIN
     },
     // Machines that are refused: texts of the first version, then those of the second. A port is there if a later line
     // says so.
-    Reading {
-        call: "plan net.bench --machine net.machine",
-        netlist: "",
-        machine: "",
-        place: Place::Machine,
-        refusal: "machine: ",
-        status: 6,
-        cases: "\
+    Case {
+        calls: "plan",
+        words: "net.bench --machine net.machine",
+        given: Given::Machine,
+        rows: "\
 logic 0\n=> machine: line 1: out of range\n\
 |logic 254\narray 2\n=> machine: 257 ports, limit is 256\n\
 |slots 5\nslots 5\n=> machine: line 2: given twice\n\
@@ -253,16 +203,15 @@ logic 0\n=> machine: line 1: out of range\n\
 |version 2\nlogic 2\nfunctions 2 5\n=> machine: line 3: no such port\n\
 |version 2\nnodes 4 5\nwheels 4\n=> machine: line 3: syntax\n\
 |version 2\nnodes 254 5\nlogic 254\narray 2\n=> machine: 257 ports, limit is 256\n",
+        ..PLAIN
     },
     // Images at their limits, each with its line; what is within them ends before its `end`.
-    Reading {
-        call: "exec net.bench net.more net.stim",
+    Case {
+        calls: "exec",
+        words: "net.bench net.more net.stim",
         netlist: ONE,
-        machine: "",
-        place: Place::More,
-        refusal: "image: ",
-        status: 14,
-        cases: "\
+        given: Given::More,
+        rows: "\
 yse-image 1\nslots 65536 units 1 init x columns 1 ports 3\n=> image: line 3: syntax\n\
 |yse-image 1\nslots 65537 units 1 init x columns 1 ports 3\n=> image: line 2: out of range\n\
 |yse-image 1\nslots 2 units 0 init x columns 1 ports 3\n=> image: line 2: out of range\n\
@@ -286,17 +235,16 @@ yse-image 1\nslots 65536 units 1 init x columns 1 ports 3\n=> image: line 3: syn
 |yse-image 1\nslots 2 units 1 init x columns 1 ports 65\nport array\nport array\nport array\nport array\nport array\nport array\nport array\nport array\nport array\nport array\nport array\nport array\nport array\nport array\nport array\nport array\nport array\nport array\nport array\nport array\nport array\nport array\nport array\nport array\nport array\nport array\nport array\nport array\nport array\nport array\nport array\nport array\nport array\nport array\nport array\nport array\nport array\nport array\nport array\nport array\nport array\nport array\nport array\nport array\nport array\nport array\nport array\nport array\nport array\nport array\nport array\nport array\nport array\nport array\nport array\nport array\nport array\nport array\nport array\nport array\nport array\nport array\nport array\nport array\n=> image: line 67: syntax\n\
 |yse-image 1\nslots 2 units 1 init x columns 1 ports 66\nport array\nport array\nport array\nport array\nport array\nport array\nport array\nport array\nport array\nport array\nport array\nport array\nport array\nport array\nport array\nport array\nport array\nport array\nport array\nport array\nport array\nport array\nport array\nport array\nport array\nport array\nport array\nport array\nport array\nport array\nport array\nport array\nport array\nport array\nport array\nport array\nport array\nport array\nport array\nport array\nport array\nport array\nport array\nport array\nport array\nport array\nport array\nport array\nport array\nport array\nport array\nport array\nport array\nport array\nport array\nport array\nport array\nport array\nport array\nport array\nport array\nport array\nport array\nport array\nport array\n=> image: line 67: out of range\n\
 |yse-image 1\nslots 2 units 1 init x columns 1 ports 1\nport logic\nport logic\n=> image: line 4: syntax\n",
+        ..PLAIN
     },
-    // C17 on two logic processors and an array processor: the host is port 3, and has the inputs in slots 0 to 4. The gates
-    // `11`, `16`, `22` and `23`, in slots 4 to 7, are read at other ports too.
-    Reading {
-        call: "compile net.bench --machine net.machine",
-        netlist: "",
+    // C17 on two logic processors and an array processor: the host is port 3, and has the inputs in slots 0 to 4. The
+    // gates `11`, `16`, `22` and `23`, in slots 4 to 7, are read at other ports too.
+    Case {
+        calls: "compile",
+        words: "net.bench --machine net.machine",
         machine: "logic 2\narray 1\n",
-        place: Place::Netlist,
-        refusal: "overfull: ",
-        status: 8,
-        cases: "\
+        given: Given::Netlist,
+        rows: "\
 INPUT(1)\nINPUT(2)\nINPUT(3)\nINPUT(6)\nINPUT(7)\nOUTPUT(22)\nOUTPUT(23)\n10 = NAND(1, 3)\n11 = NAND(3, 6)\n16 = NAND(2, 11)\n19 = NAND(11, 7)\n22 = NAND(10, 16)\n23 = NAND(16, 19)\n\
 => yse-image 1\n\
 slots 8 units 1 init x columns 5 ports 4\n\
@@ -339,17 +287,16 @@ send 4 1\n\
 take 6 0\n\
 take 7 1\n\
 end\n",
+        ..PLAIN
     },
-    // S27 on two logic processors: registers that read this turn's value of a node of their own port, or the last turn's
-    // of another one, and tables that differ.
-    Reading {
-        call: "compile net.bench --machine net.machine --init 0",
-        netlist: "",
+    // S27 on two logic processors: registers that read this turn's value of a node of their own port, or the last
+    // turn's of another one, and tables that differ.
+    Case {
+        calls: "compile",
+        words: "net.bench --machine net.machine --init 0",
         machine: "logic 2\narray 0\n",
-        place: Place::Netlist,
-        refusal: "overfull: ",
-        status: 8,
-        cases: "\
+        given: Given::Netlist,
+        rows: "\
 INPUT(G0)\nINPUT(G1)\nINPUT(G2)\nINPUT(G3)\nOUTPUT(G17)\nG5 = DFF(G10)\nG6 = DFF(G11)\nG7 = DFF(G13)\nG14 = NOT(G0)\nG17 = NOT(G11)\nG8 = AND(G14, G6)\nG15 = OR(G12, G8)\nG16 = OR(G3, G8)\nG9 = NAND(G16, G15)\nG10 = NOR(G14, G11)\nG11 = NOR(G5, G9)\nG12 = NOR(G1, G7)\nG13 = NOR(G2, G12)\n\
 => yse-image 1\n\
 slots 9 units 1 init 0 columns 4 ports 3\n\
@@ -408,16 +355,15 @@ send 2 0\n\
 send 3 1\n\
 take 8 1\n\
 end\n",
+        ..PLAIN
     },
     // A memory, at port 1, sends its output in slot 0, while it receives the first input.
-    Reading {
-        call: "compile net.bench --machine net.machine",
-        netlist: "",
+    Case {
+        calls: "compile",
+        words: "net.bench --machine net.machine",
         machine: "logic 1\narray 1\n",
-        place: Place::Netlist,
-        refusal: "overfull: ",
-        status: 8,
-        cases: "\
+        given: Given::Netlist,
+        rows: "\
 INPUT(w)\nINPUT(a)\nINPUT(d)\nOUTPUT(q)\n[q] = RAM(w; a; d)\n\
 => yse-image 1\n\
 slots 3 units 1 init x columns 3 ports 3\n\
@@ -439,62 +385,11 @@ send 1 1\n\
 send 2 1\n\
 take 0 1\n\
 end\n",
+        ..PLAIN
     },
 ];
 
-fn readings() -> &'static [Reading] {
-    READINGS
-}
-
-/// The files of a call with this text.
-fn texts_with(reading: &Reading, text: &'static str) -> Texts<'static> {
-    let (netlist, machine) = (reading.netlist.as_bytes(), reading.machine.as_bytes());
-    let text = text.as_bytes();
-    match reading.place {
-        Place::Netlist => [text, b"", machine, b""],
-        Place::Stimulus => [netlist, text, machine, b""],
-        Place::Machine => [netlist, b"", text, b""],
-        Place::More => [netlist, b"", machine, text],
-    }
-}
-
-/// Whether a text comes to what its case says.
-fn is_read<R: Threads + Wait + Sync>(
-    rt: &R,
-    alloc: Global,
-    reading: &Reading,
-    case: &'static str,
-) -> bool {
-    let (text, told) = case.split_once("=> ").unwrap_or((case, "a case"));
-    let told_bytes = told.as_bytes();
-    let wanted: (u8, &[u8], &[u8]) = if told.starts_with(reading.refusal) {
-        (reading.status, b"", told_bytes)
-    } else {
-        (0, told_bytes, b"")
-    };
-    ends(
-        rt,
-        alloc,
-        &[reading.call],
-        &texts_with(reading, text),
-        &EASY,
-        wanted,
-    )
-}
-
-/// Whether all texts of a call do.
-fn are_read<R: Threads + Wait + Sync>(rt: &R, alloc: Global, reading: &'static Reading) -> bool {
-    for case in reading.cases.split('|') {
-        if !is_read(rt, alloc, reading, case) {
-            return false;
-        }
-    }
-    true
-}
-
 #[test]
 fn texts_are_read_as_stated(rt: HostRuntime) {
-    for reading in readings() {
-        assert!(rt; are_read(&rt, rt.alloc(), reading));
-    }
+    assert!(rt; all_end(&rt, rt.alloc(), CASES));
 }

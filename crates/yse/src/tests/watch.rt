@@ -45,7 +45,7 @@ impl Shared {
 /// hold found what it looked for.
 #[derive(Drop)]
 pub(crate) struct WatchGate<'a> {
-    pub(crate) counts: CountGate,
+    counts: CountGate,
     watch: Watch,
     first: bool,
     mine: &'a AtomicBool,

@@ -1,9 +1,6 @@
 //! Words: those that are of no form, and those that are, by the first file that they name. None is there.
 
-use super::{Case, PLAIN, all_end};
-
-const USAGE: &str =
-    "usage: yse (run/refer/order) NETLIST STIMULUS [options], yse plan NETLIST [options], yse show NETLIST, yse large GATES CYCLES [options]\n";
+use super::{Case, Given, PLAIN, all_end};
 
 /// No command or an unknown one, too few or too many files, options that a command does not have, names of options that
 /// are shortened or of another case, options that are given twice or without a value, values that begin with `-`, and
@@ -29,8 +26,8 @@ const REFUSED: &str = "\
 |run a b --workers=65|large 2|large 2 2 2|large 0 1|large 30001 1|large 1 10001\
 |help Run|help c17.bench|help run run|help ''|help --mode rank|help --help";
 
-/// Calls that read the netlist `a` first: options before, between and behind the files, as two words and as one, and `--`,
-/// of which a second one is a file.
+/// Calls that read the netlist `a` first: options before, between and behind the files, as two words and as one, and
+/// `--`, of which a second one is a file.
 const NETLIST_FIRST: &str = "\
 run a b|refer --mode=unit a --units=4096 b --init=x|plan a|show a\
 |compile a --homes better --units 3 --mode unit --init 0|exec a i b|run a b --homes plain\
@@ -45,69 +42,51 @@ run --machine m a b|run a --machine=m b|run a b --init 0 --machine m\
 |order a b --banks=8 --order o --machine m|plan --mode unit a --machine=m\
 |pack a b --workers 7 --machine m --init 0";
 
+/// Calls with no other words.
+const WORDS: Case = Case { words: "", ..PLAIN };
+
 const CASES: &[Case] = &[
     Case {
         calls: REFUSED,
-        words: "",
-        status: 2,
-        line: USAGE,
-        ..PLAIN
+        rows: "=> usage: yse (run/refer/order) NETLIST STIMULUS [options], yse plan NETLIST [options], yse show NETLIST, yse large GATES CYCLES [options]\n",
+        ..WORDS
     },
     Case {
         calls: NETLIST_FIRST,
-        words: "",
-        status: 3,
-        line: "read fault: a\n",
-        ..PLAIN
+        rows: "=> read fault: a\n",
+        ..WORDS
     },
     Case {
         calls: MACHINE_FIRST,
-        words: "",
-        status: 3,
-        line: "read fault: m\n",
-        ..PLAIN
+        rows: "=> read fault: m\n",
+        ..WORDS
     },
     Case {
         calls: "large 2 2|large --workers 1 2 2|large -- 2 2",
-        words: "",
-        output: "gates 2 nodes 2 slots 9 crossings 5\nzeros 2 ones 2 xs 0 zs 0\n",
-        ..PLAIN
+        rows: "=> gates 2 nodes 2 slots 9 crossings 5\nzeros 2 ones 2 xs 0 zs 0\n",
+        ..WORDS
     },
     Case {
         calls: "help show|help -- show",
-        words: "",
-        output: "yse show NETLIST\n\nPrints a line for each input, printed name, gate, register and memory.\n\nExample: yse show s27.bench\n",
-        ..PLAIN
+        rows: "=> yse show NETLIST\n\nPrints a line for each input, printed name, gate, register and memory.\n\nExample: yse show s27.bench\n",
+        ..WORDS
     },
     Case {
         calls: "help show",
-        words: "",
-        failing: (0, 1),
-        status: 4,
-        line: "write fault\n",
-        ..PLAIN
+        given: Given::FailingWrite,
+        rows: "1=> write fault\n",
+        ..WORDS
     },
     // Values that begin with `-`, and one with an `=` in it.
     Case {
-        calls: "run a b --machine=-m",
-        words: "",
-        status: 3,
-        line: "read fault: -m\n",
-        ..PLAIN
-    },
-    Case {
-        calls: "run a b --machine=--|run -- -- -",
-        words: "",
-        status: 3,
-        line: "read fault: --\n",
-        ..PLAIN
-    },
-    Case {
-        calls: "run a b --machine=m=n",
-        words: "",
-        status: 3,
-        line: "read fault: m=n\n",
-        ..PLAIN
+        calls: "run",
+        given: Given::Words,
+        rows: "\
+a b --machine=-m=> read fault: -m\n\
+|a b --machine=--=> read fault: --\n\
+|-- -- -=> read fault: --\n\
+|a b --machine=m=n=> read fault: m=n\n",
+        ..WORDS
     },
 ];
 

@@ -40,14 +40,6 @@ impl<'a> Wanted<'a> {
         self.tell(buffer.format(number).as_bytes());
     }
 
-    /// Tells a word, a blank, a number, and a line end.
-    pub(crate) fn tell_count(&mut self, count: (&str, u32)) {
-        self.tell(count.0.as_bytes());
-        self.tell(b" ");
-        self.tell_number(count.1);
-        self.tell(b"\n");
-    }
-
     /// Tells a word, then a blank and a number each, and a line end.
     pub(crate) fn tell_line(&mut self, word: &str, numbers: &[u32]) {
         self.tell(word.as_bytes());

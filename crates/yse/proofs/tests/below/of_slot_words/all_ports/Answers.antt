@@ -4,7 +4,7 @@ use Rattle.std.proofs.lemmas.List.{length_push}
 use Rattle.std.proofs.lemmas.Option.{slice_get_within}
 use Rattle.list_laws.proofs.Places.{at_front, seam_at}
 use Rattle.slot_words.specs.plain.Passes.{AreFirstPasses, CrossbarView, IsFirstPass, PassView}
-use Rattle.yse.proofs.tests.below.of_slot_words.all_hands.Goals as goal
+use Rattle.yse.proofs.tests.below.of_slot_words.all_ports.Goals as goal
 
 -- the last of the passes
 last_pass : (made : CrossbarView) (n : ℕ) (passes rest : List PassView) (one : PassView) → AreFirstPasses made (n + 1) passes → passes ≡ rest ++ one ∷ [] → IsFirstPass made n one × AreFirstPasses made n rest
@@ -31,11 +31,11 @@ popped made passes rest one are last =
     let less = last_pass made (length rest) passes rest one (subst (λ n. AreFirstPasses made n passes) count are) last in
     record { first = subst (λ q. IsFirstPass made q one) (sym less.0.port_is) less.0; others = less.1; count = count; port = less.0.port_is }
 
-pub push_hand-pushed-requires-clause-first : goal.push_hand-pushed-requires-clause-first
-push_hand-pushed-requires-clause-first c = (popped c.args.bar.now _ _ c.in-Some.pass c.passes.invariant.passes c.in-Some.ensures.last).first
+pub push_port-pushed-requires-clause-first : goal.push_port-pushed-requires-clause-first
+push_port-pushed-requires-clause-first c = (popped c.args.bar.now _ _ c.in-Some.pass c.passes.invariant.passes c.in-Some.ensures.last).first
 
-pub push_hand-pushed-requires-clause-there : goal.push_hand-pushed-requires-clause-there
-push_hand-pushed-requires-clause-there c =
+pub push_port-pushed-requires-clause-there : goal.push_port-pushed-requires-clause-there
+push_port-pushed-requires-clause-there c =
     let last = popped c.args.bar.now _ _ c.in-Some.pass c.passes.invariant.passes c.in-Some.ensures.last in
     omega (arith, last.count, last.port, c.passes.invariant.few, ap (λ image. length image.ports) c.requires.image)
 

@@ -1,6 +1,6 @@
 use Rattle.std.proofs.Common.{length, ◌≤◌}
 use Rattle.slot_words.specs.plain.Passes.{AreFirstPasses}
-use Rattle.yse.proofs.tests.below.of_slot_words.all_hands.Given as goal
+use Rattle.yse.proofs.tests.below.of_slot_words.all_ports.Given as goal
 
 abbrev pub invariant-passes : goal.invariant-passes
 invariant-passes l = record {
