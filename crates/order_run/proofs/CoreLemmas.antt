@@ -1,5 +1,5 @@
--- The core by its seats: what each of them is, where there is room for its words, and what the whole is with
--- one seat in another's place, as after each of its four events.
+-- The core by its core_ports: what each of them is, where there is room for its words, and what the whole is with
+-- one core_port in another's place, as after each of its four events.
 use Rattle.std.proofs.Common.{List, Some, ap, append-nil, arith, get_or-set_other, get_or-set_same, inl, inr, length, length-set, map, mod-lt, mul-le-mul, refl, slice_get, slice_index_or, slice_set, subst, sym, take, take_all, ℕ, ◌*◌, ◌++◌, ◌+◌, ◌<◌, ◌^◌, ◌∙◌, ◌≡◌, ◌≤◌, [], ap₂, ◌%◌, ◌-◌, ◌/◌, ◌∷◌}
 use Rattle.std.proofs.lemmas.Bool.{cases_eq}
 use Rattle.std.proofs.lemmas.List.{drop_all, length-map, map-set}
@@ -31,12 +31,12 @@ use Rattle.event_defs.specs.declared.place.Place.{Place}
 use Rattle.port_walk.specs.Placed.{IsEnding, IsNextOf, IsReceiving, IsSending, PlacedPort, CanPut, CanTake, CanTakeValue, in_next_turn}
 use Rattle.order_run.specs.Core.{Applies, CoreView, state_of}
 use Rattle.order_run.specs.code.Core.{IsUpcoming}
-use Rattle.order_run.specs.Kept.{IsKept, IsSeat, view_of}
+use Rattle.order_run.specs.Kept.{IsKept, IsCorePort, view_of}
 use Rattle.event_defs.specs.Sources.{IsSource}
-use Rattle.order_run.specs.Seats.{place_in}
-use Rattle.order_run.specs.code.Seats.{AtSeat, HasPutRoom, HasTakeRoom, IsNextIn, HasWritten, IsWordRead, seat_asked, seat_put, seat_taken, seat_told}
+use Rattle.order_run.specs.CorePorts.{place_in}
+use Rattle.order_run.specs.code.CorePorts.{AtCorePort, HasPutRoom, HasTakeRoom, IsNextIn, HasWritten, IsWordRead, core_port_asked, core_port_put, core_port_taken, core_port_told}
 use Rattle.order_run.specs.declared.core_run.Core.TheInside.{Inside}
-use Rattle.order_run.specs.declared.seats.Seat.{Seat}
+use Rattle.order_run.specs.declared.core_ports.CorePort.{CorePort}
 use Rattle.logic_four.specs.Values.{code_of, value_of}
 use Rattle.logic_four.specs.declared.V4.{V4}
 use Rattle.event_defs.proofs.lemmas.NextLemmas.{puts_one}
@@ -47,8 +47,8 @@ use Rattle.event_defs.specs.declared.place.Action.TheVariants as action
 use Rattle.event_defs.specs.declared.place.Event.TheVariants as event
 
 -- a list whose loan ends with one member in another's place
-pub reseated : {X : Type 0} (xs now new : List X) (p : ℕ) (x : X) → now ≡ xs → new ≡ slice_set now p x → refill (length xs) xs new ≡ slice_set xs p x
-reseated xs now new p x same is =
+pub replaced : {X : Type 0} (xs now new : List X) (p : ℕ) (x : X) → now ≡ xs → new ≡ slice_set now p x → refill (length xs) xs new ≡ slice_set xs p x
+replaced xs now new p x same is =
     let whole : new ≡ slice_set xs p x = is ∙ ap (λ ys. slice_set ys p x) same in
     let long : length new ≡ length xs = ap length whole ∙ length-set xs p x in
     ap (λ rest. take (length xs) (new ++ rest)) (drop_all (length new) xs (omega arith))
@@ -99,70 +99,70 @@ module _ (a : Inside) (kept : IsKept a) (p : ℕ) (within : p < length a.image.n
   pub port_there : (port : PortImage) × IsPort image p port
   port_there = member_at image.ports p within
 
-  pub seat_there : (seat : Seat) × (slice_get a.seats p ≡ Some seat)
-  seat_there = member_at a.seats p (let long = kept.seats in omega arith)
+  pub core_port_there : (core_port : CorePort) × (slice_get a.core_ports p ≡ Some core_port)
+  core_port_there = member_at a.core_ports p (let long = kept.core_ports in omega arith)
 
-  abbrev seat : Seat
-  seat = seat_there.0
+  abbrev core_port : CorePort
+  core_port = core_port_there.0
 
-  pub is_seat : IsSeat image stimulus a.banks p seat
-  is_seat = kept.each p seat seat_there.1
+  pub is_core_port : IsCorePort image stimulus a.banks p core_port
+  is_core_port = kept.each p core_port core_port_there.1
 
-  -- any seat of this number is this one
-  pub same_seat : (other : Seat) (seats : List Seat) → seats ≡ a.seats → slice_get seats p ≡ Some other → seat ≡ other
-  same_seat other seats same at = let twice : Some seat ≡ Some other = sym seat_there.1 ∙ (ap (λ xs. slice_get xs p) (sym same) ∙ at) in cc
+  -- any core_port of this number is this one
+  pub same_core_port : (other : CorePort) (core_ports : List CorePort) → core_ports ≡ a.core_ports → slice_get core_ports p ≡ Some other → core_port ≡ other
+  same_core_port other core_ports same at = let twice : Some core_port ≡ Some other = sym core_port_there.1 ∙ (ap (λ xs. slice_get xs p) (sym same) ∙ at) in cc
 
   -- and stands there in any list that is the same
-  pub seat_in : (seats : List Seat) → seats ≡ a.seats → slice_get seats p ≡ Some seat
-  seat_in seats same = ap (λ xs. slice_get xs p) same ∙ seat_there.1
+  pub core_port_in : (core_ports : List CorePort) → core_ports ≡ a.core_ports → slice_get core_ports p ≡ Some core_port
+  core_port_in core_ports same = ap (λ xs. slice_get xs p) same ∙ core_port_there.1
 
-  module _ (seats : List Seat) (same : seats ≡ a.seats) where
-    pub seat_low : p < length seats
-    seat_low = subst (λ xs. p < length xs) (sym same) (let long = kept.seats in omega arith)
+  module _ (core_ports : List CorePort) (same : core_ports ≡ a.core_ports) where
+    pub core_port_low : p < length core_ports
+    core_port_low = subst (λ xs. p < length xs) (sym same) (let long = kept.core_ports in omega arith)
 
-    -- what holds of the seat holds of any of this number
-    pub at_seat : (Claim : Seat → Type 0) → Claim seat → AtSeat seats p Claim
-    at_seat Claim holds other at = subst Claim (same_seat other seats same at) holds
+    -- what holds of the core_port holds of any of this number
+    pub at_core_port : (Claim : CorePort → Type 0) → Claim core_port → AtCorePort core_ports p Claim
+    at_core_port Claim holds other at = subst Claim (same_core_port other core_ports same at) holds
 
-  pub here : state.place p ≡ place_in seat
-  here = get_or_from_slice_get (map place_in a.seats) p (place_in seat) (start (length image.ports)) (to_map place_in a.seats p seat seat_there.1)
+  pub here : state.place p ≡ place_in core_port
+  here = get_or_from_slice_get (map place_in a.core_ports) p (place_in core_port) (start (length image.ports)) (to_map place_in a.core_ports p core_port core_port_there.1)
 
-  pub here_turn : (state.place p).turn ≡ seat.port.turn
+  pub here_turn : (state.place p).turn ≡ core_port.port.turn
   here_turn = ap (λ (x : Place). x.turn) here
 
   -- ---- what is next
 
-  pub next_seen : (action : Action) → IsNextIn seat a.banks action → IsUpcoming (view_of a) p action
+  pub next_seen : (action : Action) → IsNextIn core_port a.banks action → IsUpcoming (view_of a) p action
   next_seen action next = record {
     each = λ port is. subst (λ (x : Place). IsNext port x a.banks until (image_value image stimulus x.turn p) action) (sym here)
-        ((subst (λ (w : PlacedPort). IsNextOf w seat.known a.banks action) is_seat.port next.next).each port is);
+        ((subst (λ (w : PlacedPort). IsNextOf w core_port.known a.banks action) is_core_port.port next.next).each port is);
   }
 
-  pub known_wide : length seat.known ≡ length seat.port.image.ports
-  known_wide = ap (λ (x : Place). length x.known) (sym here) ∙ (kept.sound.paced.wide p within ∙ ap (λ (w : PlacedPort). length w.image.ports) (sym is_seat.port))
+  pub known_wide : length core_port.known ≡ length core_port.port.image.ports
+  known_wide = ap (λ (x : Place). length x.known) (sym here) ∙ (kept.sound.paced.wide p within ∙ ap (λ (w : PlacedPort). length w.image.ports) (sym is_core_port.port))
 
-  pub sending_here : (port : PortImage) → IsPort image p port → (i : ℕ) (link : LinkOut) → (state.place p).turn ≤ until → SendsNext port (state.place p).puts (state.place p).takes i link → IsSending seat.port i link
+  pub sending_here : (port : PortImage) → IsPort image p port → (i : ℕ) (link : LinkOut) → (state.place p).turn ≤ until → SendsNext port (state.place p).puts (state.place p).takes i link → IsSending core_port.port i link
   sending_here port is i link early next =
-      let there : SendsNext port seat.port.puts seat.port.takes i link = subst (λ (x : Place). SendsNext port x.puts x.takes i link) here next in
-      let soon : seat.port.turn ≤ until = subst (λ (x : Place). x.turn ≤ until) here early in
-      subst (λ (w : PlacedPort). IsSending w i link) (sym is_seat.port) (record { early = soon; seat = port; is = is; next = there })
+      let there : SendsNext port core_port.port.puts core_port.port.takes i link = subst (λ (x : Place). SendsNext port x.puts x.takes i link) here next in
+      let soon : core_port.port.turn ≤ until = subst (λ (x : Place). x.turn ≤ until) here early in
+      subst (λ (w : PlacedPort). IsSending w i link) (sym is_core_port.port) (record { early = soon; port_image = port; is = is; next = there })
 
-  pub receiving_here : (port : PortImage) → IsPort image p port → (j : ℕ) (link : LinkIn) → (state.place p).turn ≤ until → ReceivesNext port (state.place p).puts (state.place p).takes j link → IsReceiving seat.port j link
+  pub receiving_here : (port : PortImage) → IsPort image p port → (j : ℕ) (link : LinkIn) → (state.place p).turn ≤ until → ReceivesNext port (state.place p).puts (state.place p).takes j link → IsReceiving core_port.port j link
   receiving_here port is j link early next =
-      let there : ReceivesNext port seat.port.puts seat.port.takes j link = subst (λ (x : Place). ReceivesNext port x.puts x.takes j link) here next in
-      let soon : seat.port.turn ≤ until = subst (λ (x : Place). x.turn ≤ until) here early in
-      subst (λ (w : PlacedPort). IsReceiving w j link) (sym is_seat.port) (record { early = soon; seat = port; is = is; next = there })
+      let there : ReceivesNext port core_port.port.puts core_port.port.takes j link = subst (λ (x : Place). ReceivesNext port x.puts x.takes j link) here next in
+      let soon : core_port.port.turn ≤ until = subst (λ (x : Place). x.turn ≤ until) here early in
+      subst (λ (w : PlacedPort). IsReceiving w j link) (sym is_core_port.port) (record { early = soon; port_image = port; is = is; next = there })
 
-  pub ending_here : (port : PortImage) → IsPort image p port → (state.place p).turn ≤ until → EndsNext port (state.place p).puts (state.place p).takes → IsEnding seat.port
+  pub ending_here : (port : PortImage) → IsPort image p port → (state.place p).turn ≤ until → EndsNext port (state.place p).puts (state.place p).takes → IsEnding core_port.port
   ending_here port is early next =
-      let there : EndsNext port seat.port.puts seat.port.takes = subst (λ (x : Place). EndsNext port x.puts x.takes) here next in
-      let soon : seat.port.turn ≤ until = subst (λ (x : Place). x.turn ≤ until) here early in
-      subst (λ (w : PlacedPort). IsEnding w) (sym is_seat.port) (record { early = soon; seat = port; is = is; next = there })
+      let there : EndsNext port core_port.port.puts core_port.port.takes = subst (λ (x : Place). EndsNext port x.puts x.takes) here next in
+      let soon : core_port.port.turn ≤ until = subst (λ (x : Place). x.turn ≤ until) here early in
+      subst (λ (w : PlacedPort). IsEnding w) (sym is_core_port.port) (record { early = soon; port_image = port; is = is; next = there })
 
   -- ---- words
 
-  pub bank_low : seat.bank < a.banks
-  bank_low = subst (λ b. b < a.banks) (sym is_seat.bank) (mod-lt seat.port.turn kept.some)
+  pub bank_low : core_port.bank < a.banks
+  bank_low = subst (λ b. b < a.banks) (sym is_core_port.bank) (mod-lt core_port.port.turn kept.some)
 
   -- there is a word for each bank of a send
   pub word_low : (q i b : ℕ) (link : LinkOut) → IsSend image q i link → b < a.banks → word_place a.banks (send_number image q i) b < length a.words
@@ -172,40 +172,40 @@ module _ (a : Inside) (kept : IsKept a) (p : ℕ) (within : p < length a.image.n
       let long = kept.words in
       omega arith
 
-  pub put_room : HasPutRoom seat a.banks (length a.words)
+  pub put_room : HasPutRoom core_port a.banks (length a.words)
   put_room = record {
     each = λ i link sending.
-        let s : IsSending (record seat.port { image = image; stimulus = stimulus; port = p; first_row = 0; until = until }) i link = subst (λ (w : PlacedPort). IsSending w i link) is_seat.port sending in
-        subst (λ n. word_place a.banks (n + i) seat.bank < length a.words) (sym is_seat.first)
-        (word_low p i seat.bank link (record { port = s.seat; is = s.is; link_is = s.next.is }) bank_low);
+        let s : IsSending (record core_port.port { image = image; stimulus = stimulus; port = p; first_row = 0; until = until }) i link = subst (λ (w : PlacedPort). IsSending w i link) is_core_port.port sending in
+        subst (λ n. word_place a.banks (n + i) core_port.bank < length a.words) (sym is_core_port.first)
+        (word_low p i core_port.bank link (record { port = s.port_image; is = s.is; link_is = s.next.is }) bank_low);
   }
 
   -- the source of a receipt
-  pub source_of : (port : PortImage) → IsPort image p port → (j n : ℕ) (link : LinkIn) → slice_get port.ins j ≡ Some link → slice_get seat.sources j ≡ Some n → IsSource image link n
+  pub source_of : (port : PortImage) → IsPort image p port → (j n : ℕ) (link : LinkIn) → slice_get port.ins j ≡ Some link → slice_get core_port.sources j ≡ Some n → IsSource image link n
   source_of port is j n link at source =
-      let found = (is_seat.sources port is).each j link (slice_get_within port.ins j link at) at in
+      let found = (is_core_port.sources port is).each j link (slice_get_within port.ins j link at) at in
       let twice : Some found.0 ≡ Some n = sym found.1 ∙ source in
       let same : found.0 ≡ n = cc in
       subst (IsSource image link) same found.2
 
-  pub take_room : HasTakeRoom seat a.banks (length a.words)
+  pub take_room : HasTakeRoom core_port a.banks (length a.words)
   take_room = record {
     there = λ j link receiving.
-        let r : IsReceiving (record seat.port { image = image; stimulus = stimulus; port = p; first_row = 0; until = until }) j link = subst (λ (w : PlacedPort). IsReceiving w j link) is_seat.port receiving in
-        let low = slice_get_within r.seat.ins j link r.next.is in
-        let long = (is_seat.sources r.seat r.is).long in
+        let r : IsReceiving (record core_port.port { image = image; stimulus = stimulus; port = p; first_row = 0; until = until }) j link = subst (λ (w : PlacedPort). IsReceiving w j link) is_core_port.port receiving in
+        let low = slice_get_within r.port_image.ins j link r.next.is in
+        let long = (is_core_port.sources r.port_image r.is).long in
         omega arith;
     each = λ j n link receiving source.
-        let r : IsReceiving (record seat.port { image = image; stimulus = stimulus; port = p; first_row = 0; until = until }) j link = subst (λ (w : PlacedPort). IsReceiving w j link) is_seat.port receiving in
-        let from = source_of r.seat r.is j n link r.next.is source in
-        subst (λ m. word_place a.banks m seat.bank < length a.words) (sym from.number) (word_low link.sender from.i seat.bank from.sent from.send bank_low);
+        let r : IsReceiving (record core_port.port { image = image; stimulus = stimulus; port = p; first_row = 0; until = until }) j link = subst (λ (w : PlacedPort). IsReceiving w j link) is_core_port.port receiving in
+        let from = source_of r.port_image r.is j n link r.next.is source in
+        subst (λ m. word_place a.banks m core_port.bank < length a.words) (sym from.number) (word_low link.sender from.i core_port.bank from.sent from.send bank_low);
   }
 
-  -- ---- the whole with another seat
+  -- ---- the whole with another core_port
 
-  module _ (other : Seat) (finished words : List ℕ) where
+  module _ (other : CorePort) (finished words : List ℕ) where
     abbrev after : Inside
-    after = record a { seats = slice_set a.seats p other; finished = finished; words = words }
+    after = record a { core_ports = slice_set a.core_ports p other; finished = finished; words = words }
 
     -- its state
     pub state_after : state_of (view_of after) ≡ record state {
@@ -214,32 +214,32 @@ module _ (a : Inside) (kept : IsKept a) (p : ℕ) (within : p < length a.image.n
       word = word_in image a.banks words;
     }
     state_after =
-        let long : p < length (map place_in a.seats) = (let e = length-map a.seats place_in in let s = kept.seats in omega arith) in
-        let places : ◌≡◌ {A = ℕ → Place} (λ q. slice_index_or (map place_in (slice_set a.seats p other)) q (start (length image.ports))) (updated state.place p (place_in other)) =
-        ap {A = List Place} {B = ℕ → Place} (λ (xs : List Place). λ q. slice_index_or xs q (start (length image.ports))) (map-set place_in a.seats p other)
-        ∙ set_updated (map place_in a.seats) p (place_in other) (start (length image.ports)) long in
+        let long : p < length (map place_in a.core_ports) = (let e = length-map a.core_ports place_in in let s = kept.core_ports in omega arith) in
+        let places : ◌≡◌ {A = ℕ → Place} (λ q. slice_index_or (map place_in (slice_set a.core_ports p other)) q (start (length image.ports))) (updated state.place p (place_in other)) =
+        ap {A = List Place} {B = ℕ → Place} (λ (xs : List Place). λ q. slice_index_or xs q (start (length image.ports))) (map-set place_in a.core_ports p other)
+        ∙ set_updated (map place_in a.core_ports) p (place_in other) (start (length image.ports)) long in
         ap {A = ℕ → Place} {B = CoreState} (λ f. record { place = f; finished = λ q. slice_index_or finished q 0; word = word_in image a.banks words }) places
 
     -- it is kept, and this was a step
-    pub stepped : (answer : CoreStep) → (moves answer ≡ 0 → ⊥) → IsSeat image stimulus a.banks p other → length finished ≡ length image.ports → length words ≡ send_count image * a.banks
+    pub stepped : (answer : CoreStep) → (moves answer ≡ 0 → ⊥) → IsCorePort image stimulus a.banks p other → length finished ≡ length image.ports → length words ≡ send_count image * a.banks
         → ((port : PortImage) → IsPort image p port → IsStep image stimulus a.banks until p port state answer (state_of (view_of after)))
         → IsKept after × Applies (view_of a) p answer (view_of after)
-    stepped answer moved seated finished_long words_long step = (
+    stepped answer moved is_core_port_here finished_long words_long step = (
       record {
         image = kept.image;
         stimulus = kept.stimulus;
         some = kept.some;
         until = kept.until;
-        seats = length-set a.seats p other ∙ kept.seats;
+        core_ports = length-set a.core_ports p other ∙ kept.core_ports;
         finished = finished_long;
         words = words_long;
-        each = set_member (IsSeat image stimulus a.banks) a.seats p other seated kept.each;
+        each = set_member (IsCorePort image stimulus a.banks) a.core_ports p other is_core_port_here kept.each;
         sound = step_sound image stimulus a.banks until kept.image kept.some state kept.sound p port_there.0 port_there.1 answer (state_of (view_of after)) (step port_there.0 port_there.1);
       },
       record { same = refl; step = step; still = λ none. absurd (moved none) },
     )
 
-  turn_is : (turn : ℕ) → turn ≡ seat.port.turn → turn ≡ (state.place p).turn
+  turn_is : (turn : ℕ) → turn ≡ core_port.port.turn → turn ≡ (state.place p).turn
   turn_is turn is = is ∙ sym here_turn
 
   -- ---- Ask
@@ -250,14 +250,14 @@ module _ (a : Inside) (kept : IsKept a) (p : ℕ) (within : p < length a.image.n
       let next : AsksNext port.0 (state.place p) a.banks r = (upcoming.each port.0 port.1).1 in
       reader_in image kept.image p next.i r next.link (record { port = port.0; is = port.1; link_is = next.sends.is }) next.reads
 
-  pub known_within : (r : ℕ) → IsUpcoming (view_of a) p (action.Ask r) → r < length seat.known
+  pub known_within : (r : ℕ) → IsUpcoming (view_of a) p (action.Ask r) → r < length core_port.known
   known_within r upcoming =
       let low = reader_within r upcoming in
       let wide = known_wide in
-      let same = ap (λ (w : PlacedPort). length w.image.ports) is_seat.port in
+      let same = ap (λ (w : PlacedPort). length w.image.ports) is_core_port.port in
       omega arith
 
-  pub ask_waits : (r turn : ℕ) → IsUpcoming (view_of a) p (action.Ask r) → turn ≡ seat.port.turn → slice_index_or a.finished r 0 < turn - a.banks → Applies (view_of a) p NotYet (view_of a)
+  pub ask_waits : (r turn : ℕ) → IsUpcoming (view_of a) p (action.Ask r) → turn ≡ core_port.port.turn → slice_index_or a.finished r 0 < turn - a.banks → Applies (view_of a) p NotYet (view_of a)
   ask_waits r turn upcoming is less = record {
     same = refl;
     still = λ none. refl;
@@ -267,13 +267,13 @@ module _ (a : Inside) (kept : IsKept a) (p : ℕ) (within : p < length a.image.n
         (next.0, inl (r, record { next = next.1; less = omega arith }), refl);
   }
 
-  pub ask_moves : (r turn : ℕ) → IsUpcoming (view_of a) p (action.Ask r) → turn ≡ seat.port.turn → turn - a.banks ≤ slice_index_or a.finished r 0
-      → IsKept (record a { seats = slice_set a.seats p (seat_asked seat r (slice_index_or a.finished r 0)) })
-      × Applies (view_of a) p (Moved (event.Ask r)) (view_of (record a { seats = slice_set a.seats p (seat_asked seat r (slice_index_or a.finished r 0)) }))
+  pub ask_moves : (r turn : ℕ) → IsUpcoming (view_of a) p (action.Ask r) → turn ≡ core_port.port.turn → turn - a.banks ≤ slice_index_or a.finished r 0
+      → IsKept (record a { core_ports = slice_set a.core_ports p (core_port_asked core_port r (slice_index_or a.finished r 0)) })
+      × Applies (view_of a) p (Moved (event.Ask r)) (view_of (record a { core_ports = slice_set a.core_ports p (core_port_asked core_port r (slice_index_or a.finished r 0)) }))
   ask_moves r turn upcoming is more =
       let n : ℕ = slice_index_or a.finished r 0 in
-      let s = is_seat in
-      stepped (seat_asked seat r (slice_index_or a.finished r 0)) a.finished a.words (Moved (event.Ask r)) (λ none. absurd (omega arith))
+      let s = is_core_port in
+      stepped (core_port_asked core_port r (slice_index_or a.finished r 0)) a.finished a.words (Moved (event.Ask r)) (λ none. absurd (omega arith))
       (record { port = s.port; bank = s.bank; first = s.first; sources = s.sources })
       kept.finished kept.words
       (λ port is_port.
@@ -283,7 +283,7 @@ module _ (a : Inside) (kept : IsKept a) (p : ℕ) (within : p < length a.image.n
         record {
           next = next.1;
           moves = omega arith;
-          is = state_after (seat_asked seat r (slice_index_or a.finished r 0)) a.finished a.words
+          is = state_after (core_port_asked core_port r (slice_index_or a.finished r 0)) a.finished a.words
               ∙ ap {A = Place} {B = CoreState} (λ (x : Place). record state { place = updated state.place p (after_ask x r (slice_index_or a.finished r 0)) }) (sym here);
         },
       ))
@@ -291,7 +291,7 @@ module _ (a : Inside) (kept : IsKept a) (p : ℕ) (within : p < length a.image.n
   -- ---- Put
 
   -- turns are few enough for a word
-  pub early_turn : seat.port.turn < 2 ^ 60
+  pub early_turn : core_port.port.turn < 2 ^ 60
   early_turn =
       let port = port_there in
       let ends : (state.place p).turn ≤ until + 1 = (kept.sound.paced.places p port.0 port.1).ends in
@@ -299,28 +299,28 @@ module _ (a : Inside) (kept : IsKept a) (p : ℕ) (within : p < length a.image.n
       let same = here_turn in
       omega arith
 
-  pub can_put : (slot : ℕ) (v : V4) → IsUpcoming (view_of a) p (action.Put slot v) → CanPut seat.port
+  pub can_put : (slot : ℕ) (v : V4) → IsUpcoming (view_of a) p (action.Put slot v) → CanPut core_port.port
   can_put slot v upcoming =
       let port = port_there in
       let next = upcoming.each port.0 port.1 in
       let put : PutsNext port.0 (state.place p) a.banks slot = next.1 in
       record { i = put.i; link = put.link; sending = sending_here port.0 port.1 put.i put.link next.0 put.sends }
 
-  pub put_moves : (slot : ℕ) (v : V4) (seats : List Seat) (words : List ℕ) → IsUpcoming (view_of a) p (action.Put slot v)
-      → HasWritten seat a.banks v a.words words
-      → ((i : ℕ) (link : LinkOut) → IsSending seat.port i link → seats ≡ slice_set a.seats p (seat_put seat link.slot))
-      → IsKept (record a { seats = seats; words = words }) × Applies (view_of a) p (Moved (event.Put slot)) (view_of (record a { seats = seats; words = words }))
-  put_moves slot v seats words upcoming wrote reseats =
+  pub put_moves : (slot : ℕ) (v : V4) (core_ports : List CorePort) (words : List ℕ) → IsUpcoming (view_of a) p (action.Put slot v)
+      → HasWritten core_port a.banks v a.words words
+      → ((i : ℕ) (link : LinkOut) → IsSending core_port.port i link → core_ports ≡ slice_set a.core_ports p (core_port_put core_port link.slot))
+      → IsKept (record a { core_ports = core_ports; words = words }) × Applies (view_of a) p (Moved (event.Put slot)) (view_of (record a { core_ports = core_ports; words = words }))
+  put_moves slot v core_ports words upcoming wrote replaces =
       let port = port_there in
       let next = upcoming.each port.0 port.1 in
       let put : PutsNext port.0 (state.place p) a.banks slot = next.1 in
       let sending = sending_here port.0 port.1 put.i put.link next.0 put.sends in
-      let seats_are : seats ≡ slice_set a.seats p (seat_put seat slot) = reseats put.i put.link sending ∙ ap (λ s. slice_set a.seats p (seat_put seat s)) put.slot_is in
+      let core_ports_are : core_ports ≡ slice_set a.core_ports p (core_port_put core_port slot) = replaces put.i put.link sending ∙ ap (λ s. slice_set a.core_ports p (core_port_put core_port s)) put.slot_is in
       let words_are : words ≡ slice_set a.words (word_place a.banks (send_number image p put.i) ((state.place p).turn % a.banks)) (4 * (state.place p).turn + code_of (image_value image stimulus (state.place p).turn p slot)) = words_put put.i put.link sending slot v words wrote next.2 in
-      subst (λ (xs : List Seat). IsKept (record a { seats = xs; words = words }) × Applies (view_of a) p (Moved (event.Put slot)) (view_of (record a { seats = xs; words = words }))) (sym seats_are)
-      (subst (λ (ws : List ℕ). IsKept (record a { seats = slice_set a.seats p (seat_put seat slot); words = ws }) × Applies (view_of a) p (Moved (event.Put slot)) (view_of (record a { seats = slice_set a.seats p (seat_put seat slot); words = ws }))) (sym words_are)
-      (stepped (seat_put seat slot) a.finished (slice_set a.words (word_place a.banks (send_number image p put.i) ((state.place p).turn % a.banks)) (4 * (state.place p).turn + code_of (image_value image stimulus (state.place p).turn p slot))) (Moved (event.Put slot)) (λ none. absurd (omega arith))
-      (put_seated slot)
+      subst (λ (xs : List CorePort). IsKept (record a { core_ports = xs; words = words }) × Applies (view_of a) p (Moved (event.Put slot)) (view_of (record a { core_ports = xs; words = words }))) (sym core_ports_are)
+      (subst (λ (ws : List ℕ). IsKept (record a { core_ports = slice_set a.core_ports p (core_port_put core_port slot); words = ws }) × Applies (view_of a) p (Moved (event.Put slot)) (view_of (record a { core_ports = slice_set a.core_ports p (core_port_put core_port slot); words = ws }))) (sym words_are)
+      (stepped (core_port_put core_port slot) a.finished (slice_set a.words (word_place a.banks (send_number image p put.i) ((state.place p).turn % a.banks)) (4 * (state.place p).turn + code_of (image_value image stimulus (state.place p).turn p slot))) (Moved (event.Put slot)) (λ none. absurd (omega arith))
+      (put_core_port slot)
       kept.finished
       (length-set a.words (word_place a.banks (send_number image p put.i) ((state.place p).turn % a.banks)) (4 * (state.place p).turn + code_of (image_value image stimulus (state.place p).turn p slot)) ∙ kept.words)
       (λ q is_q.
@@ -334,30 +334,30 @@ module _ (a : Inside) (kept : IsKept a) (p : ℕ) (within : p < length a.image.n
         },
       ))))
     where
-      put_seated : (slot : ℕ) → IsSeat image stimulus a.banks p (seat_put seat slot)
-      put_seated slot = let s = is_seat in record { port = ap {A = PlacedPort} {B = PlacedPort} (λ (w : PlacedPort). record w { puts = seat.port.puts ++ slot ∷ [] }) s.port; bank = s.bank; first = s.first; sources = s.sources }
+      put_core_port : (slot : ℕ) → IsCorePort image stimulus a.banks p (core_port_put core_port slot)
+      put_core_port slot = let s = is_core_port in record { port = ap {A = PlacedPort} {B = PlacedPort} (λ (w : PlacedPort). record w { puts = core_port.port.puts ++ slot ∷ [] }) s.port; bank = s.bank; first = s.first; sources = s.sources }
 
-      words_put : (i : ℕ) (link : LinkOut) → IsSending seat.port i link → (slot : ℕ) (v : V4) (words : List ℕ) → HasWritten seat a.banks v a.words words → v ≡ image_value image stimulus (state.place p).turn p slot
+      words_put : (i : ℕ) (link : LinkOut) → IsSending core_port.port i link → (slot : ℕ) (v : V4) (words : List ℕ) → HasWritten core_port a.banks v a.words words → v ≡ image_value image stimulus (state.place p).turn p slot
           → words ≡ slice_set a.words (word_place a.banks (send_number image p i) ((state.place p).turn % a.banks)) (4 * (state.place p).turn + code_of (image_value image stimulus (state.place p).turn p slot))
       words_put i link sending slot v words wrote value =
-          let s = is_seat in
+          let s = is_core_port in
           wrote.each i link sending
           ∙ ap₂ (λ n x. slice_set a.words n x)
           (ap₂ (λ first b. word_place a.banks (first + i) b) s.first (s.bank ∙ ap (λ t. t % a.banks) (sym here_turn)))
           (ap₂ (λ t code. 4 * t + code) (sym here_turn) (ap code_of value))
 
       put_state : (i : ℕ) (link : LinkOut) → IsSend image p i link → (slot : ℕ)
-          → state_of (view_of (record a { seats = slice_set a.seats p (seat_put seat slot); words = slice_set a.words (word_place a.banks (send_number image p i) ((state.place p).turn % a.banks)) (4 * (state.place p).turn + code_of (image_value image stimulus (state.place p).turn p slot)) }))
+          → state_of (view_of (record a { core_ports = slice_set a.core_ports p (core_port_put core_port slot); words = slice_set a.words (word_place a.banks (send_number image p i) ((state.place p).turn % a.banks)) (4 * (state.place p).turn + code_of (image_value image stimulus (state.place p).turn p slot)) }))
           ≡ record state { place = updated state.place p (after_put (state.place p) slot); word = written state.word p i ((state.place p).turn % a.banks) (4 * (state.place p).turn + code_of (image_value image stimulus (state.place p).turn p slot)) }
       put_state i link send slot =
-          state_after (seat_put seat slot) a.finished (slice_set a.words (word_place a.banks (send_number image p i) ((state.place p).turn % a.banks)) (4 * (state.place p).turn + code_of (image_value image stimulus (state.place p).turn p slot)))
+          state_after (core_port_put core_port slot) a.finished (slice_set a.words (word_place a.banks (send_number image p i) ((state.place p).turn % a.banks)) (4 * (state.place p).turn + code_of (image_value image stimulus (state.place p).turn p slot)))
           ∙ (ap {A = Place} {B = CoreState} (λ (x : Place). record state { place = updated state.place p (after_put x slot); word = word_in image a.banks (slice_set a.words (word_place a.banks (send_number image p i) ((state.place p).turn % a.banks)) (4 * (state.place p).turn + code_of (image_value image stimulus (state.place p).turn p slot))) }) (sym here)
           ∙ ap {A = ℕ → ℕ → ℕ → ℕ} {B = CoreState} (λ w. record state { place = updated state.place p (after_put (state.place p) slot); word = w })
           (word_set image a.banks a.words p i ((state.place p).turn % a.banks) (4 * (state.place p).turn + code_of (image_value image stimulus (state.place p).turn p slot)) within (send_within image p i link send) (mod-lt (state.place p).turn kept.some) kept.words))
 
   -- ---- Take
 
-  pub can_take : (slot : ℕ) → IsUpcoming (view_of a) p (action.Take slot) → CanTake seat.port
+  pub can_take : (slot : ℕ) → IsUpcoming (view_of a) p (action.Take slot) → CanTake core_port.port
   can_take slot upcoming =
       let port = port_there in
       let next = upcoming.each port.0 port.1 in
@@ -365,15 +365,15 @@ module _ (a : Inside) (kept : IsKept a) (p : ℕ) (within : p < length a.image.n
       record { j = take.j; link = take.link; receiving = receiving_here port.0 port.1 take.j take.link next.0 take.receives }
 
   -- what it reads
-  pub reads_word : (slot x : ℕ) → IsUpcoming (view_of a) p (action.Take slot) → IsWordRead seat a.banks a.words x → (port : PortImage) → IsPort image p port → Reads image a.banks p port state slot x
+  pub reads_word : (slot x : ℕ) → IsUpcoming (view_of a) p (action.Take slot) → IsWordRead core_port a.banks a.words x → (port : PortImage) → IsPort image p port → Reads image a.banks p port state slot x
   reads_word slot x upcoming read port is =
       let next = upcoming.each port is in
       let take : TakesNext port (state.place p) slot = next.1 in
       let receiving = receiving_here port is take.j take.link next.0 take.receives in
-      let found = (is_seat.sources port is).each take.j take.link (slice_get_within port.ins take.j take.link take.receives.is) take.receives.is in
+      let found = (is_core_port.sources port is).each take.j take.link (slice_get_within port.ins take.j take.link take.receives.is) take.receives.is in
       let from : IsSource image take.link found.0 = found.2 in
-      let word : x ≡ slice_index_or a.words (word_place a.banks found.0 seat.bank) 0 = read.each take.j found.0 take.link receiving found.1 in
-      let bank : seat.bank ≡ (state.place p).turn % a.banks = is_seat.bank ∙ ap (λ t. t % a.banks) (sym here_turn) in
+      let word : x ≡ slice_index_or a.words (word_place a.banks found.0 core_port.bank) 0 = read.each take.j found.0 take.link receiving found.1 in
+      let bank : core_port.bank ≡ (state.place p).turn % a.banks = is_core_port.bank ∙ ap (λ t. t % a.banks) (sym here_turn) in
       record {
         j = take.j;
         link = take.link;
@@ -387,7 +387,7 @@ module _ (a : Inside) (kept : IsKept a) (p : ℕ) (within : p < length a.image.n
             ∙ sym (word_at image a.banks a.words take.link.sender from.i ((state.place p).turn % a.banks) (send_within image take.link.sender from.i from.sent from.send) (mod-lt (state.place p).turn kept.some)));
       }
 
-  pub take_waits : (slot x turn : ℕ) → IsUpcoming (view_of a) p (action.Take slot) → IsWordRead seat a.banks a.words x → turn ≡ seat.port.turn → (x / 4 ≡ turn → ⊥) → Applies (view_of a) p NotYet (view_of a)
+  pub take_waits : (slot x turn : ℕ) → IsUpcoming (view_of a) p (action.Take slot) → IsWordRead core_port a.banks a.words x → turn ≡ core_port.port.turn → (x / 4 ≡ turn → ⊥) → Applies (view_of a) p NotYet (view_of a)
   take_waits slot x turn upcoming read is other = record {
     same = refl;
     still = λ none. refl;
@@ -397,34 +397,34 @@ module _ (a : Inside) (kept : IsKept a) (p : ℕ) (within : p < length a.image.n
         (next.0, inr (slot, record { x = x; reads = reads; less = read_older image stimulus a.banks until kept.image kept.some state kept.sound p port is_port slot x reads (λ e. other (e ∙ sym (turn_is turn is))) }), refl);
   }
 
-  pub can_take_value : (slot x turn : ℕ) (v : V4) → IsUpcoming (view_of a) p (action.Take slot) → IsWordRead seat a.banks a.words x → turn ≡ seat.port.turn → x / 4 ≡ turn → v ≡ value_of (x % 4) → CanTakeValue seat.port v
+  pub can_take_value : (slot x turn : ℕ) (v : V4) → IsUpcoming (view_of a) p (action.Take slot) → IsWordRead core_port a.banks a.words x → turn ≡ core_port.port.turn → x / 4 ≡ turn → v ≡ value_of (x % 4) → CanTakeValue core_port.port v
   can_take_value slot x turn v upcoming read is stamp value =
       let port = port_there in
       let next = upcoming.each port.0 port.1 in
       let reads : Reads image a.banks p port.0 state slot x = reads_word slot x upcoming read port.0 port.1 in
       let word = read_value image stimulus a.banks until kept.image kept.some state kept.sound p port.0 port.1 slot x reads (stamp ∙ turn_is turn is) in
       let found : v ≡ image_value image stimulus (state.place p).turn reads.link.sender slot = value ∙ decoded x (state.place p).turn (image_value image stimulus (state.place p).turn reads.link.sender slot) word in
-      let here_value : v ≡ image_value image stimulus seat.port.turn reads.link.sender reads.link.slot = found ∙ ap₂ (λ t s. image_value image stimulus t reads.link.sender s) here_turn (sym reads.slot_is) in
+      let here_value : v ≡ image_value image stimulus core_port.port.turn reads.link.sender reads.link.slot = found ∙ ap₂ (λ t s. image_value image stimulus t reads.link.sender s) here_turn (sym reads.slot_is) in
       record {
         j = reads.j;
         link = reads.link;
         receiving = receiving_here port.0 port.1 reads.j reads.link next.0 reads.receives;
-        value = subst (λ (w : PlacedPort). v ≡ image_value w.image w.stimulus w.turn reads.link.sender reads.link.slot) (sym is_seat.port) here_value;
+        value = subst (λ (w : PlacedPort). v ≡ image_value w.image w.stimulus w.turn reads.link.sender reads.link.slot) (sym is_core_port.port) here_value;
       }
 
-  pub take_moves : (slot x turn : ℕ) (seats : List Seat) → IsUpcoming (view_of a) p (action.Take slot) → IsWordRead seat a.banks a.words x → turn ≡ seat.port.turn → x / 4 ≡ turn
-      → ((j : ℕ) (link : LinkIn) → IsReceiving seat.port j link → seats ≡ slice_set a.seats p (seat_taken seat link.slot))
-      → IsKept (record a { seats = seats }) × Applies (view_of a) p (Moved (event.Take slot)) (view_of (record a { seats = seats }))
-  take_moves slot x turn seats upcoming read is stamp reseats =
+  pub take_moves : (slot x turn : ℕ) (core_ports : List CorePort) → IsUpcoming (view_of a) p (action.Take slot) → IsWordRead core_port a.banks a.words x → turn ≡ core_port.port.turn → x / 4 ≡ turn
+      → ((j : ℕ) (link : LinkIn) → IsReceiving core_port.port j link → core_ports ≡ slice_set a.core_ports p (core_port_taken core_port link.slot))
+      → IsKept (record a { core_ports = core_ports }) × Applies (view_of a) p (Moved (event.Take slot)) (view_of (record a { core_ports = core_ports }))
+  take_moves slot x turn core_ports upcoming read is stamp replaces =
       let port = port_there in
       let next = upcoming.each port.0 port.1 in
       let take : TakesNext port.0 (state.place p) slot = next.1 in
       let receiving = receiving_here port.0 port.1 take.j take.link next.0 take.receives in
-      let seats_are : seats ≡ slice_set a.seats p (seat_taken seat slot) = reseats take.j take.link receiving ∙ ap (λ s. slice_set a.seats p (seat_taken seat s)) take.slot_is in
-      let s = is_seat in
-      subst (λ (xs : List Seat). IsKept (record a { seats = xs }) × Applies (view_of a) p (Moved (event.Take slot)) (view_of (record a { seats = xs }))) (sym seats_are)
-      (stepped (seat_taken seat slot) a.finished a.words (Moved (event.Take slot)) (λ none. absurd (omega arith))
-      (record { port = ap {A = PlacedPort} {B = PlacedPort} (λ (w : PlacedPort). record w { takes = seat.port.takes ++ slot ∷ [] }) s.port; bank = s.bank; first = s.first; sources = s.sources })
+      let core_ports_are : core_ports ≡ slice_set a.core_ports p (core_port_taken core_port slot) = replaces take.j take.link receiving ∙ ap (λ s. slice_set a.core_ports p (core_port_taken core_port s)) take.slot_is in
+      let s = is_core_port in
+      subst (λ (xs : List CorePort). IsKept (record a { core_ports = xs }) × Applies (view_of a) p (Moved (event.Take slot)) (view_of (record a { core_ports = xs }))) (sym core_ports_are)
+      (stepped (core_port_taken core_port slot) a.finished a.words (Moved (event.Take slot)) (λ none. absurd (omega arith))
+      (record { port = ap {A = PlacedPort} {B = PlacedPort} (λ (w : PlacedPort). record w { takes = core_port.port.takes ++ slot ∷ [] }) s.port; bank = s.bank; first = s.first; sources = s.sources })
       kept.finished kept.words
       (λ q is_q.
       let next_q = upcoming.each q is_q in (
@@ -433,25 +433,25 @@ module _ (a : Inside) (kept : IsKept a) (p : ℕ) (within : p < length a.image.n
           x = x;
           reads = reads_word slot x upcoming read q is_q;
           moves = stamp ∙ turn_is turn is;
-          is = state_after (seat_taken seat slot) a.finished a.words
+          is = state_after (core_port_taken core_port slot) a.finished a.words
               ∙ ap {A = Place} {B = CoreState} (λ (y : Place). record state { place = updated state.place p (after_take y slot) }) (sym here);
         },
       )))
 
   -- ---- Tell
 
-  pub can_tell : IsUpcoming (view_of a) p action.Tell → IsEnding seat.port
+  pub can_tell : IsUpcoming (view_of a) p action.Tell → IsEnding core_port.port
   can_tell upcoming =
       let port = port_there in
       let next = upcoming.each port.0 port.1 in
       ending_here port.0 port.1 next.0 next.1
 
-  pub tell_moves : (turn : ℕ) → IsUpcoming (view_of a) p action.Tell → turn ≡ seat.port.turn
-      → IsKept (record a { seats = slice_set a.seats p (seat_told seat ((seat.port.turn + 1) % a.banks)); finished = slice_set a.finished p turn })
-      × Applies (view_of a) p (Moved event.Tell) (view_of (record a { seats = slice_set a.seats p (seat_told seat ((seat.port.turn + 1) % a.banks)); finished = slice_set a.finished p turn }))
+  pub tell_moves : (turn : ℕ) → IsUpcoming (view_of a) p action.Tell → turn ≡ core_port.port.turn
+      → IsKept (record a { core_ports = slice_set a.core_ports p (core_port_told core_port ((core_port.port.turn + 1) % a.banks)); finished = slice_set a.finished p turn })
+      × Applies (view_of a) p (Moved event.Tell) (view_of (record a { core_ports = slice_set a.core_ports p (core_port_told core_port ((core_port.port.turn + 1) % a.banks)); finished = slice_set a.finished p turn }))
   tell_moves turn upcoming is =
-      let s = is_seat in
-      stepped (seat_told seat ((seat.port.turn + 1) % a.banks)) (slice_set a.finished p turn) a.words (Moved event.Tell) (λ none. absurd (omega arith))
+      let s = is_core_port in
+      stepped (core_port_told core_port ((core_port.port.turn + 1) % a.banks)) (slice_set a.finished p turn) a.words (Moved event.Tell) (λ none. absurd (omega arith))
       (record { port = ap in_next_turn s.port; bank = refl; first = s.first; sources = s.sources })
       (length-set a.finished p turn ∙ kept.finished) kept.words
       (λ port is_port.
@@ -459,8 +459,8 @@ module _ (a : Inside) (kept : IsKept a) (p : ℕ) (within : p < length a.image.n
         next.0,
         record {
           next = next.1;
-          is = state_after (seat_told seat ((seat.port.turn + 1) % a.banks)) (slice_set a.finished p turn) a.words
-              ∙ (ap {A = ℕ → ℕ} {B = CoreState} (λ f. record state { place = updated state.place p (after_tell (place_in seat)); finished = f }) (set_updated a.finished p turn 0 (let long = kept.finished in omega arith))
+          is = state_after (core_port_told core_port ((core_port.port.turn + 1) % a.banks)) (slice_set a.finished p turn) a.words
+              ∙ (ap {A = ℕ → ℕ} {B = CoreState} (λ f. record state { place = updated state.place p (after_tell (place_in core_port)); finished = f }) (set_updated a.finished p turn 0 (let long = kept.finished in omega arith))
               ∙ (ap {A = Place} {B = CoreState} (λ (x : Place). record state { place = updated state.place p (after_tell x); finished = updated state.finished p turn }) (sym here)
               ∙ ap {A = ℕ} {B = CoreState} (λ t. record state { place = updated state.place p (after_tell (state.place p)); finished = updated state.finished p t }) (turn_is turn is)));
         },

@@ -2,6 +2,6 @@ mod CoreLemmas
 mod EndLemmas
 mod RoundLemmas
 mod RowLemmas
-mod SeatLemmas
+mod CorePortLemmas
 mod StartLemmas
 mod StepLemmas

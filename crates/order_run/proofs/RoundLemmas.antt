@@ -17,13 +17,13 @@ use Rattle.event_defs.specs.declared.place.Event.TheVariants as event
 use Rattle.event_defs.specs.declared.place.CoreStep.{CoreStep}
 use Rattle.event_defs.specs.declared.place.CoreStep.TheVariants.{Moved}
 use Rattle.port_walk.specs.Placed.{PlacedPort}
-use Rattle.order_run.proofs.CoreLemmas.{here_turn, is_seat, same_seat, seat_in, seat_there}
+use Rattle.order_run.proofs.CoreLemmas.{here_turn, is_core_port, same_core_port, core_port_in, core_port_there}
 use Rattle.order_run.specs.Core.{Applies, AreDone, CoreView, IsRoundOf, IsSoundCore, SparesReaders, TakesThisTurn, left_of, rows_of, state_of, turns_of}
 use Rattle.order_run.specs.code.Core.{HasStepped, IsReady}
-use Rattle.order_run.specs.Kept.{IsKept, IsSeat, view_of}
-use Rattle.order_run.specs.code.Seats.{IsHostSeat, host_rows}
+use Rattle.order_run.specs.Kept.{IsKept, IsCorePort, view_of}
+use Rattle.order_run.specs.code.CorePorts.{IsHostCorePort, host_rows}
 use Rattle.order_run.specs.declared.core_run.Core.TheInside.{Inside}
-use Rattle.order_run.specs.declared.seats.Seat.{Seat}
+use Rattle.order_run.specs.declared.core_ports.CorePort.{CorePort}
 
 -- ---- one step
 
@@ -153,28 +153,28 @@ module _ (a : Inside) (kept : IsKept a) (n : ℕ) (count : n ≡ length a.image.
   host_is : n - 1 ≡ host_of a.image.now
   host_is = ap (λ k. k - 1) count
 
-  pub host_there : (seats : List Seat) → seats ≡ a.seats → (seat : Seat) × (slice_get seats (n - 1) ≡ Some seat)
-  host_there seats same = ((seat_there a kept (n - 1) last_inside).0, seat_in a kept (n - 1) last_inside seats same)
+  pub host_there : (core_ports : List CorePort) → core_ports ≡ a.core_ports → (core_port : CorePort) × (slice_get core_ports (n - 1) ≡ Some core_port)
+  host_there core_ports same = ((core_port_there a kept (n - 1) last_inside).0, core_port_in a kept (n - 1) last_inside core_ports same)
 
-  module _ (seats : List Seat) (same : seats ≡ a.seats) (seat : Seat) (at : slice_get seats (n - 1) ≡ Some seat) where
-    seated : IsSeat a.image.now a.stim.now a.banks (n - 1) seat
-    seated = subst (λ (s : Seat). IsSeat a.image.now a.stim.now a.banks (n - 1) s) (same_seat a kept (n - 1) last_inside seat seats same at) (is_seat a kept (n - 1) last_inside)
+  module _ (core_ports : List CorePort) (same : core_ports ≡ a.core_ports) (core_port : CorePort) (at : slice_get core_ports (n - 1) ≡ Some core_port) where
+    is_core_port_here : IsCorePort a.image.now a.stim.now a.banks (n - 1) core_port
+    is_core_port_here = subst (λ (s : CorePort). IsCorePort a.image.now a.stim.now a.banks (n - 1) s) (same_core_port a kept (n - 1) last_inside core_port core_ports same at) (is_core_port a kept (n - 1) last_inside)
 
-    pub image_here : seat.port.image ≡ a.image.now
-    image_here = ap (λ (w : PlacedPort). w.image) seated.port
+    pub image_here : core_port.port.image ≡ a.image.now
+    image_here = ap (λ (w : PlacedPort). w.image) is_core_port_here.port
 
-    pub stimulus_here : seat.port.stimulus ≡ a.stim.now
-    stimulus_here = ap (λ (w : PlacedPort). w.stimulus) seated.port
+    pub stimulus_here : core_port.port.stimulus ≡ a.stim.now
+    stimulus_here = ap (λ (w : PlacedPort). w.stimulus) is_core_port_here.port
 
-    pub first_here : seat.port.first_row ≡ 0
-    first_here = ap (λ (w : PlacedPort). w.first_row) seated.port
+    pub first_here : core_port.port.first_row ≡ 0
+    first_here = ap (λ (w : PlacedPort). w.first_row) is_core_port_here.port
 
-    pub is_host : IsHostSeat seat
-    is_host = ap (λ (w : PlacedPort). w.port) seated.port ∙ (host_is ∙ ap host_of (sym image_here))
+    pub is_host : IsHostCorePort core_port
+    is_host = ap (λ (w : PlacedPort). w.port) is_core_port_here.port ∙ (host_is ∙ ap host_of (sym image_here))
 
-    pub rows_here : host_rows seat ≡ rows_of (view_of a)
+    pub rows_here : host_rows core_port ≡ rows_of (view_of a)
     rows_here =
-        let turn : ((state_of (view_of a)).place (n - 1)).turn ≡ seat.port.turn = here_turn a kept (n - 1) last_inside ∙ ap (λ (s : Seat). s.port.turn) (same_seat a kept (n - 1) last_inside seat seats same at) in
+        let turn : ((state_of (view_of a)).place (n - 1)).turn ≡ core_port.port.turn = here_turn a kept (n - 1) last_inside ∙ ap (λ (s : CorePort). s.port.turn) (same_core_port a kept (n - 1) last_inside core_port core_ports same at) in
         let has = kept.sound.finished (n - 1) last_inside in
-        let before : seat.port.turn - 1 ≡ (state_of (view_of a)).finished (n - 1) = omega arith in
+        let before : core_port.port.turn - 1 ≡ (state_of (view_of a)).finished (n - 1) = omega arith in
         ap₂ (λ t (i : Image). t / i.units) before image_here ∙ ap (λ p. (state_of (view_of a)).finished p / a.image.now.units) host_is

@@ -22,15 +22,15 @@ use Rattle.event_defs.specs.Steps.{CoreState, first_state}
 use Rattle.event_defs.specs.declared.place.Place.{Place}
 use Rattle.port_walk.specs.Placed.{PlacedPort, at_start, block_end, place_of}
 use Rattle.order_run.specs.Core.{IsSoundCore, IsStart, state_of}
-use Rattle.order_run.specs.Kept.{IsKept, IsSeat, view_of}
-use Rattle.order_run.specs.code.Made.{AreFirstSeats, IsFirstSeat, whole_run}
-use Rattle.order_run.specs.Seats.{place_in}
+use Rattle.order_run.specs.Kept.{IsKept, IsCorePort, view_of}
+use Rattle.order_run.specs.code.Made.{AreFirstCorePorts, IsFirstCorePort, whole_run}
+use Rattle.order_run.specs.CorePorts.{place_in}
 use Rattle.order_run.specs.declared.core_run.Core.TheInside.{Inside}
-use Rattle.order_run.specs.declared.seats.Seat.{Seat}
+use Rattle.order_run.specs.declared.core_ports.CorePort.{CorePort}
 
--- the seat of a port before its first event stands at the start
-pub seat_starts : (image : Image) (stimulus : Stimulus) (banks p : ℕ) (seat : Seat) → IsFirstSeat image stimulus banks p seat → place_in seat ≡ start (length image.ports)
-seat_starts image stimulus banks p seat first = ap₂ (λ (w : PlacedPort) (known : List ℕ). place_of w known) first.port first.known
+-- the core_port of a port before its first event stands at the start
+pub core_port_starts : (image : Image) (stimulus : Stimulus) (banks p : ℕ) (core_port : CorePort) → IsFirstCorePort image stimulus banks p core_port → place_in core_port ≡ start (length image.ports)
+core_port_starts image stimulus banks p core_port first = ap₂ (λ (w : PlacedPort) (known : List ℕ). place_of w known) first.port first.known
 
 -- one block of all cycles has all turns
 whole_end : (image : Image) (stimulus : Stimulus) → block_end image stimulus 0 (whole_run stimulus) ≡ turn_count (timing_of image) stimulus
@@ -38,8 +38,8 @@ whole_end image stimulus = ap (λ n. image.units * n) all where
   all : min (0 + max 1 (cycle_count stimulus)) (cycle_count stimulus) ≡ cycle_count stimulus
   all = omega arith
 
-pub seat_fits : (image : Image) (stimulus : Stimulus) (banks p : ℕ) (seat : Seat) → IsFirstSeat image stimulus banks p seat → IsSeat image stimulus banks p seat
-seat_fits image stimulus banks p seat first = record {
+pub core_port_fits : (image : Image) (stimulus : Stimulus) (banks p : ℕ) (core_port : CorePort) → IsFirstCorePort image stimulus banks p core_port → IsCorePort image stimulus banks p core_port
+core_port_fits image stimulus banks p core_port first = record {
   port = subst (λ (w : PlacedPort). w ≡ record w { image = image; stimulus = stimulus; port = p; first_row = 0; until = turn_count (timing_of image) stimulus }) (sym first.port)
       (ap {A = ℕ} {B = PlacedPort} (λ n. record (at_start image stimulus p (whole_run stimulus)) { until = n }) (whole_end image stimulus));
   bank = first.bank ∙ ap (λ (w : PlacedPort). w.turn % banks) (sym first.port);
@@ -53,22 +53,22 @@ pub record Begins (a : Inside) : Type 0 where
   pub valid : IsValidStimulus a.stim.now
   pub some : 1 ≤ a.banks
   pub until : a.until ≡ turn_count (timing_of a.image.now) a.stim.now
-  pub seats : AreFirstSeats a.image.now a.stim.now a.banks (length a.image.now.ports) a.seats
+  pub core_ports : AreFirstCorePorts a.image.now a.stim.now a.banks (length a.image.now.ports) a.core_ports
   pub finished : a.finished ≡ replicate (length a.image.now.ports) 0
   pub words : a.words ≡ replicate (send_count a.image.now * a.banks) 0
 
 module _ (a : Inside) (begins : Begins a) where
-  starts_at : (q : ℕ) → slice_index_or (map place_in a.seats) q (start (length a.image.now.ports)) ≡ start (length a.image.now.ports)
-  starts_at q = elim (slice_get_cases a.seats q).1 [
+  starts_at : (q : ℕ) → slice_index_or (map place_in a.core_ports) q (start (length a.image.now.ports)) ≡ start (length a.image.now.ports)
+  starts_at q = elim (slice_get_cases a.core_ports q).1 [
     | inl there ↦
-        get_or_from_slice_get (map place_in a.seats) q (place_in there.0) (start (length a.image.now.ports)) (to_map place_in a.seats q there.0 there.2)
-        ∙ seat_starts a.image.now a.stim.now a.banks q there.0 (begins.seats.each q there.0 there.2)
-    | inr past ↦ get_or_past (map place_in a.seats) q (start (length a.image.now.ports)) (let far = past.0 in let long = length-map a.seats place_in in omega arith)
+        get_or_from_slice_get (map place_in a.core_ports) q (place_in there.0) (start (length a.image.now.ports)) (to_map place_in a.core_ports q there.0 there.2)
+        ∙ core_port_starts a.image.now a.stim.now a.banks q there.0 (begins.core_ports.each q there.0 there.2)
+    | inr past ↦ get_or_past (map place_in a.core_ports) q (start (length a.image.now.ports)) (let far = past.0 in let long = length-map a.core_ports place_in in omega arith)
   ]
 
   pub start_state : state_of (view_of a) ≡ first_state (length a.image.now.ports)
   start_state =
-      let places : ◌≡◌ {A = ℕ → Place} (λ q. slice_index_or (map place_in a.seats) q (start (length a.image.now.ports))) (λ q. start (length a.image.now.ports)) = fun_ext (λ q. starts_at q) in
+      let places : ◌≡◌ {A = ℕ → Place} (λ q. slice_index_or (map place_in a.core_ports) q (start (length a.image.now.ports))) (λ q. start (length a.image.now.ports)) = fun_ext (λ q. starts_at q) in
       let none_finished : ◌≡◌ {A = ℕ → ℕ} (λ q. slice_index_or a.finished q 0) (λ q. 0) = fun_ext (λ q. ap (λ xs. slice_index_or xs q 0) begins.finished ∙ replicate_read (length a.image.now.ports) q 0) in
       let none_written : ◌≡◌ {A = ℕ → ℕ → ℕ → ℕ} (word_in a.image.now a.banks a.words) (λ p i b. 0) = ap (word_in a.image.now a.banks) begins.words ∙ words_zero a.image.now a.banks (send_count a.image.now * a.banks) in
       ap {A = ℕ → Place} {B = CoreState} (λ f. record { place = f; finished = λ q. slice_index_or a.finished q 0; word = word_in a.image.now a.banks a.words }) places
@@ -84,34 +84,34 @@ module _ (a : Inside) (begins : Begins a) where
     stimulus = begins.valid;
     some = begins.some;
     until = begins.until;
-    seats = begins.seats.long;
+    core_ports = begins.core_ports.long;
     finished = ap length begins.finished ∙ length-replicate (length a.image.now.ports) 0;
     words = ap length begins.words ∙ length-replicate (send_count a.image.now * a.banks) 0;
-    each = λ p seat at. seat_fits a.image.now a.stim.now a.banks p seat (begins.seats.each p seat at);
+    each = λ p core_port at. core_port_fits a.image.now a.stim.now a.banks p core_port (begins.core_ports.each p core_port at);
     sound = start_sound;
   }
 
   pub is_start : IsStart a.image.now a.stim.now a.banks (view_of a)
   is_start = record { image_is = refl; stimulus_is = refl; banks_are = refl; state = start_state }
 
--- one more seat
-pub seats_more : (image : Image) (stimulus : Stimulus) (banks n : ℕ) (seat : Seat) (seats next : List Seat) → AreFirstSeats image stimulus banks n seats → IsFirstSeat image stimulus banks n seat → next ≡ seats ++ seat ∷ [] → AreFirstSeats image stimulus banks (n + 1) next
-seats_more image stimulus banks n seat seats next are first pushed = record {
+-- one more core_port
+pub core_ports_more : (image : Image) (stimulus : Stimulus) (banks n : ℕ) (core_port : CorePort) (core_ports next : List CorePort) → AreFirstCorePorts image stimulus banks n core_ports → IsFirstCorePort image stimulus banks n core_port → next ≡ core_ports ++ core_port ∷ [] → AreFirstCorePorts image stimulus banks (n + 1) next
+core_ports_more image stimulus banks n core_port core_ports next are first pushed = record {
   long = long;
   each = λ p other at.
       let size = long in
       let low = slice_get_within next p other at in
       let count = are.long in
-      let here : slice_get (seats ++ seat ∷ []) p ≡ Some other = ap (λ xs. slice_get xs p) (sym pushed) ∙ at in
+      let here : slice_get (core_ports ++ core_port ∷ []) p ≡ Some other = ap (λ xs. slice_get xs p) (sym pushed) ∙ at in
       elim (cases_lt p n) [
-        | inl before ↦ are.each p other (sym (at_front seats (seat ∷ []) p (omega arith)) ∙ here)
+        | inl before ↦ are.each p other (sym (at_front core_ports (core_port ∷ []) p (omega arith)) ∙ here)
         | inr last ↦
             let same : p ≡ n = omega arith in
-            let place : p ≡ length seats = omega arith in
-            let twice : Some seat ≡ Some other = sym (seam_at seats seat []) ∙ (ap (λ k. slice_get (seats ++ seat ∷ []) k) (sym place) ∙ here) in
-            let is : seat ≡ other = cc in
-            subst (λ k. IsFirstSeat image stimulus banks k other) (sym same) (subst (IsFirstSeat image stimulus banks n) is first)
+            let place : p ≡ length core_ports = omega arith in
+            let twice : Some core_port ≡ Some other = sym (seam_at core_ports core_port []) ∙ (ap (λ k. slice_get (core_ports ++ core_port ∷ []) k) (sym place) ∙ here) in
+            let is : core_port ≡ other = cc in
+            subst (λ k. IsFirstCorePort image stimulus banks k other) (sym same) (subst (IsFirstCorePort image stimulus banks n) is first)
       ];
 } where
   long : length next ≡ n + 1
-  long = ap length pushed ∙ (ap (λ k. k) (length-append seats (seat ∷ [])) ∙ (let count = are.long in let one : length (seat ∷ []) ≡ 1 = refl in omega arith))
+  long = ap length pushed ∙ (ap (λ k. k) (length-append core_ports (core_port ∷ [])) ∙ (let count = are.long in let one : length (core_port ∷ []) ≡ 1 = refl in omega arith))

@@ -10,35 +10,35 @@ use Rattle.image_defs.specs.Steps.{timing_of}
 use Rattle.image_defs.specs.WellFormed.{IsWellFormed}
 use Rattle.event_defs.specs.Row.{send_count, sends_before}
 use Rattle.order_run.specs.declared.core_run.Core.TheInside.{Inside}
-use Rattle.order_run.specs.declared.seats.Seat.{Seat}
+use Rattle.order_run.specs.declared.core_ports.CorePort.{CorePort}
 use Rattle.order_run.specs.Core.{CoreView, IsSoundCore}
 use Rattle.event_defs.specs.Sources.{AreSources}
-use Rattle.order_run.specs.Seats.{place_in}
+use Rattle.order_run.specs.CorePorts.{place_in}
 
 abbrev pub view_of : Inside → CoreView
 view_of a = record {
   image = a.image.now;
   stimulus = a.stim.now;
   banks = a.banks;
-  places = map place_in a.seats;
+  places = map place_in a.core_ports;
   finished = a.finished;
   words = a.words;
 }
 
--- the seat of port p
-pub record IsSeat (image : Image) (stimulus : Stimulus) (banks p : ℕ) (seat : Seat) : Type 0 where
-  pub port : seat.port ≡ record seat.port { image = image; stimulus = stimulus; port = p; first_row = 0; until = turn_count (timing_of image) stimulus }
-  pub bank : seat.bank ≡ seat.port.turn % banks
-  pub first : seat.first ≡ sends_before image p
-  pub sources : (port : PortImage) → IsPort image p port → AreSources image port.ins (length port.ins) seat.sources
+-- the core_port of port p
+pub record IsCorePort (image : Image) (stimulus : Stimulus) (banks p : ℕ) (core_port : CorePort) : Type 0 where
+  pub port : core_port.port ≡ record core_port.port { image = image; stimulus = stimulus; port = p; first_row = 0; until = turn_count (timing_of image) stimulus }
+  pub bank : core_port.bank ≡ core_port.port.turn % banks
+  pub first : core_port.first ≡ sends_before image p
+  pub sources : (port : PortImage) → IsPort image p port → AreSources image port.ins (length port.ins) core_port.sources
 
 pub record IsKept (a : Inside) : Type 0 where
   pub image : IsWellFormed a.image.now
   pub stimulus : IsValidStimulus a.stim.now
   pub some : 1 ≤ a.banks
   pub until : a.until ≡ turn_count (timing_of a.image.now) a.stim.now
-  pub seats : length a.seats ≡ length a.image.now.ports
+  pub core_ports : length a.core_ports ≡ length a.image.now.ports
   pub finished : length a.finished ≡ length a.image.now.ports
   pub words : length a.words ≡ send_count a.image.now * a.banks
-  pub each : (p : ℕ) (seat : Seat) → slice_get a.seats p ≡ Some seat → IsSeat a.image.now a.stim.now a.banks p seat
+  pub each : (p : ℕ) (core_port : CorePort) → slice_get a.core_ports p ≡ Some core_port → IsCorePort a.image.now a.stim.now a.banks p core_port
   pub sound : IsSoundCore (view_of a)

@@ -2,4 +2,4 @@ pub mod code
 pub mod Core
 pub mod Kept
 pub mod Orders
-pub mod Seats
+pub mod CorePorts

@@ -1,4 +1,4 @@
 pub mod Core
 pub mod Made
-pub mod Seats
+pub mod CorePorts
 pub mod Stepped

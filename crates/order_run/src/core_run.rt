@@ -16,7 +16,7 @@ ghost use Rattle.order_run.specs.Core.{Applies, AreDone, IsRoundOf, IsSoundCore,
 ghost use Rattle.order_run.specs.code.Core.{IsReady, IsUpcoming};
 
 use crate::rows;
-use crate::seats::{self, Seat};
+use crate::core_ports::{self, CorePort};
 use crate::words::{is_of, lags};
 use event_defs::{Action, CoreStep, Event};
 use image_defs::Image;
@@ -35,7 +35,7 @@ pub struct Core<'a> {
     stim: &'a Stimulus,
     banks: u32,
     until: u64,
-    seats: List<Seat<'a>>,
+    core_ports: List<CorePort<'a>>,
     finished: List<u64>,
     words: List<u64>,
 }
@@ -115,13 +115,13 @@ impl<'a> Core<'a> {
         let cycles = stim.cycles();
         let finished = List::filled(alloc, 0, ports)?;
         let words = List::filled(alloc, 0, words)?;
-        let seats = seats::make(alloc, image, stim, firsts, banks, cycles.max(1))?;
+        let core_ports = core_ports::make(alloc, image, stim, firsts, banks, cycles.max(1))?;
         Ok(Core {
             image,
             stim,
             banks,
             until: image.units as u64 * cycles as u64,
-            seats,
+            core_ports,
             finished,
             words,
         })
@@ -170,7 +170,7 @@ impl<'a> Core<'a> {
         ensures next { IsUpcoming self.now port result }
         ensures ready { IsReady self.now }
     {
-        seats::next(self.seats.as_slice(), port as usize, self.banks)
+        core_ports::next(self.core_ports.as_slice(), port as usize, self.banks)
     }
 
     /// A port looks how many turns a reader has finished.
@@ -180,12 +180,12 @@ impl<'a> Core<'a> {
         ensures { Applies self.old port result self.new }
     {
         let p = port as usize;
-        let turn = seats::turn(self.seats.as_slice(), p);
+        let turn = core_ports::turn(self.core_ports.as_slice(), p);
         let finished = self.finished.as_slice()[reader as usize];
         if lags(finished, turn, self.banks) {
             return CoreStep::NotYet;
         }
-        seats::ask(self.seats.as_mut_slice(), p, reader, finished);
+        core_ports::ask(self.core_ports.as_mut_slice(), p, reader, finished);
         CoreStep::Moved(Event::Ask { reader })
     }
 
@@ -196,8 +196,8 @@ impl<'a> Core<'a> {
         ensures { Applies self.old port (Moved (event.Put slot)) self.new }
     {
         let p = port as usize;
-        seats::write(self.seats.as_slice(), p, self.banks, &mut self.words, value);
-        seats::put(self.seats.as_mut_slice(), p);
+        core_ports::write(self.core_ports.as_slice(), p, self.banks, &mut self.words, value);
+        core_ports::put(self.core_ports.as_mut_slice(), p);
     }
 
     /// A port reads the value that is sent to it in a slot, if it is there.
@@ -207,11 +207,11 @@ impl<'a> Core<'a> {
         ensures { Applies self.old port result self.new }
     {
         let p = port as usize;
-        let word = seats::read(self.seats.as_slice(), p, self.banks, &self.words);
-        if !is_of(word, seats::turn(self.seats.as_slice(), p)) {
+        let word = core_ports::read(self.core_ports.as_slice(), p, self.banks, &self.words);
+        if !is_of(word, core_ports::turn(self.core_ports.as_slice(), p)) {
             return CoreStep::NotYet;
         }
-        seats::take(self.seats.as_mut_slice(), p, decoded(word));
+        core_ports::take(self.core_ports.as_mut_slice(), p, decoded(word));
         CoreStep::Moved(Event::Take { slot })
     }
 
@@ -222,8 +222,8 @@ impl<'a> Core<'a> {
         ensures { Applies self.old port (Moved event.Tell) self.new }
     {
         let p = port as usize;
-        let turn = seats::turn(self.seats.as_slice(), p);
-        seats::tell(self.seats.as_mut_slice(), p, self.banks);
+        let turn = core_ports::turn(self.core_ports.as_slice(), p);
+        core_ports::tell(self.core_ports.as_mut_slice(), p, self.banks);
         self.finished.set(p, turn);
     }
 
@@ -231,7 +231,7 @@ impl<'a> Core<'a> {
     pub fn rows_done(&self) -> u32
         ensures { result ≡ rows_of self.now }
     {
-        rows::rows_done(self.seats.as_slice(), self.image.ports.len() - 1)
+        rows::rows_done(self.core_ports.as_slice(), self.image.ports.len() - 1)
     }
 
     /// The row of a cycle, counted from 1, that is done.
@@ -242,7 +242,7 @@ impl<'a> Core<'a> {
         ensures cells { (j : ℕ) → j < length result.now
             → value_at result.now j ≡ shown self.now.image self.now.stimulus cycle j }
     {
-        rows::cells(self.seats.as_slice(), self.image.ports.len() - 1, cycle)
+        rows::cells(self.core_ports.as_slice(), self.image.ports.len() - 1, cycle)
     }
 
     /// Whether every port has finished its last turn.

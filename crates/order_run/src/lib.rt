@@ -13,7 +13,7 @@
 
 mod core_run;
 mod rows;
-mod seats;
+mod core_ports;
 mod steps;
 mod words;
 

@@ -1,33 +1,33 @@
 //! The rows that the host has done.
 
 ghost use Rattle.std.specs.Prelude.{length, ◌<◌, ◌≡◌, ◌≤◌};
-ghost use Rattle.order_run.specs.code.Seats.{AtSeat, IsHostSeat, IsRowOf, host_rows};
+ghost use Rattle.order_run.specs.code.CorePorts.{AtCorePort, IsHostCorePort, IsRowOf, host_rows};
 
-use crate::seats::Seat;
+use crate::core_ports::CorePort;
 use logic_four::V4;
 
-/// The number of rows that the host at this seat has done.
-pub(crate) fn rows_done(seats: &[Seat], p: usize) -> u32
-    requires there { p < length seats.now }
-    requires host { AtSeat seats.now p IsHostSeat }
-    ensures { AtSeat seats.now p (λ seat. result ≡ host_rows seat) }
+/// The number of rows that the host at this core_port has done.
+pub(crate) fn rows_done(core_ports: &[CorePort], p: usize) -> u32
+    requires there { p < length core_ports.now }
+    requires host { AtCorePort core_ports.now p IsHostCorePort }
+    ensures { AtCorePort core_ports.now p (λ core_port. result ≡ host_rows core_port) }
 {
-    match seats[p].port.host() {
+    match core_ports[p].port.host() {
         Some(host) => host.rows_done(),
         None => unreachable!(),
     }
 }
 
-/// The row of a cycle that the host at this seat has done. It has given up none.
-pub(crate) fn cells<'b>(seats: &'b [Seat], p: usize, cycle: u32) -> &'b [V4]
-    requires there { p < length seats.now }
-    requires host { AtSeat seats.now p IsHostSeat }
-    requires all { AtSeat seats.now p (λ seat. seat.port.first_row ≡ 0) }
+/// The row of a cycle that the host at this core_port has done. It has given up none.
+pub(crate) fn cells<'b>(core_ports: &'b [CorePort], p: usize, cycle: u32) -> &'b [V4]
+    requires there { p < length core_ports.now }
+    requires host { AtCorePort core_ports.now p IsHostCorePort }
+    requires all { AtCorePort core_ports.now p (λ core_port. core_port.port.first_row ≡ 0) }
     requires some { 1 ≤ cycle }
-    requires done { AtSeat seats.now p (λ seat. cycle ≤ host_rows seat) }
-    ensures { AtSeat seats.now p (λ seat. IsRowOf seat cycle result.now) }
+    requires done { AtCorePort core_ports.now p (λ core_port. cycle ≤ host_rows core_port) }
+    ensures { AtCorePort core_ports.now p (λ core_port. IsRowOf core_port cycle result.now) }
 {
-    match seats[p].port.host() {
+    match core_ports[p].port.host() {
         Some(host) => host.cells(cycle),
         None => unreachable!(),
     }

@@ -16,10 +16,10 @@ use Rattle.stim_text.specs.declared.order.Order.{Order}
 use Rattle.stim_text.specs.Orders.{steps_of}
 use Rattle.trace_text.specs.Line.{HasRoom}
 use Rattle.machine_run.specs.Shown.{AreShown}
-use Rattle.named_files.specs.Images.{IsImageOf, IsMachineImage}
+use Rattle.call_steps.specs.Images.{IsImageOf, IsMachineImage}
 use Rattle.yse_commands.specs.Orders.{EndsIn, EndsInOrder}
 use Rattle.order_run.specs.Orders.{AreRowsInOrder}
-use Rattle.named_files.specs.Outcome.{Outcome, done, unfinished}
+use Rattle.call_steps.specs.Outcome.{Outcome, done, unfinished}
 use Rattle.yse_commands.specs.Outputs.{CanPrint, trace_bytes}
 use Rattle.yse_commands.proofs.ShownLemmas.{front_shown, shown_prints}
 

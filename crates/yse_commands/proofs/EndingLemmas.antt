@@ -3,7 +3,7 @@ use Rattle.std.proofs.Common.{◌≡◌, sym, refl, subst, ℕ, List, [], Option
 use Rattle.yse_commands.specs.declared.output.Ending.{Ending}
 use Rattle.yse_commands.specs.declared.output.Output.{Output}
 use Rattle.yse_commands.specs.declared.output.Output.TheVariants as output
-use Rattle.refusal_lines.specs.declared.status.Status.TheVariants as status
+use Rattle.refusals.specs.declared.status.Status.TheVariants as status
 use Rattle.yse_commands.specs.code.Endings.{ending_in, status_after, IsTold}
 use Rattle.yse_commands.specs.Ends.{MayWrite}
 use Rattle.yse_commands.specs.Outputs.{bytes_of}

@@ -17,7 +17,7 @@ use Rattle.net_defs.specs.declared.timing.Timing.{Timing}
 use Rattle.net_defs.specs.Time.{cycle_count}
 use Rattle.net_defs.specs.Valid.{input_count}
 use Rattle.port_host.specs.Rows.{printed_sources}
-use Rattle.named_files.specs.Images.{IsImageOf, IsMachineImage}
+use Rattle.call_steps.specs.Images.{IsImageOf, IsMachineImage}
 use Rattle.yse_commands.specs.Told.{TellsTurns, block_of, large_turns, run_turns}
 
 -- the image of a machine has the machine's ports

@@ -8,7 +8,7 @@ use Rattle.net_defs.specs.declared.stimulus.Stimulus.{Stimulus}
 use Rattle.net_defs.specs.declared.timing.Timing.{Timing}
 use Rattle.pack_machine.specs.Lines.{bytes_of_lane, bytes_of_lanes}
 use Rattle.stim_text.specs.declared.lanes.Lanes.{Lanes}
-use Rattle.named_files.specs.Images.{IsImageOf}
+use Rattle.call_steps.specs.Images.{IsImageOf}
 use Rattle.yse_commands.specs.commands.Pack.{AreLaneTraces, AreTracesAfter}
 use Rattle.yse_commands.proofs.ShownLemmas.{run_trace}
 

@@ -5,17 +5,17 @@ use Rattle.cmd_words.specs.declared.command.RunWords.{RunWords}
 use Rattle.net_defs.specs.declared.netlist.Netlist.{Netlist}
 use Rattle.net_defs.specs.declared.stimulus.Stimulus.{Stimulus}
 use Rattle.net_defs.specs.declared.timing.Timing.{Timing}
-use Rattle.named_files.specs.declared.reading.Timed.{Timed}
-use Rattle.refusal_lines.specs.declared.refusal.Refusal.{Refusal}
-use Rattle.named_files.specs.Outcome.{Outcome}
-use Rattle.named_files.specs.Passing.{AfterTimed, Continuation, Never, Only, Passes}
-use Rattle.named_files.specs.Readings.{Reading}
+use Rattle.call_steps.specs.declared.reading.Timed.{Timed}
+use Rattle.refusals.specs.declared.refusal.Refusal.{Refusal}
+use Rattle.call_steps.specs.Outcome.{Outcome}
+use Rattle.call_steps.specs.Passing.{AfterTimed, Continuation, Never, Only, Passes}
+use Rattle.call_steps.specs.Readings.{Reading}
 use Rattle.yse_commands.specs.Refusals.{Follows}
-use Rattle.named_files.specs.Refused.{refused_of}
-use Rattle.named_files.specs.Files.{AfterNetlist, AfterStimulus}
-use Rattle.named_files.proofs.lemmas.ReadingLemmas.{readings_both}
-use Rattle.named_files.proofs.lemmas.WeakerLemmas.{Implies, stimulus_so, timed_so}
-use Rattle.named_files.proofs.PassingLemmas.{only_so}
+use Rattle.call_steps.specs.Refused.{refused_of}
+use Rattle.call_steps.specs.Files.{AfterNetlist, AfterStimulus}
+use Rattle.call_steps.proofs.lemmas.ReadingLemmas.{readings_both}
+use Rattle.call_steps.proofs.lemmas.WeakerLemmas.{Implies, stimulus_so, timed_so}
+use Rattle.call_steps.proofs.PassingLemmas.{only_so}
 
 module _ (names : Option (List ℕ → Bool)) (bytes : Option (List ℕ → List ℕ)) where
   module _ {X : Type 0} (Step : Continuation X → List Reading → Outcome → Type 0) (so : (One Other : Continuation X) → ((x : X) → Implies (One x) (Other x)) → Implies (Step One) (Step Other)) where

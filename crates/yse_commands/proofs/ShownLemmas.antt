@@ -20,7 +20,7 @@ use Rattle.image_defs.specs.Frames.{shown}
 use Rattle.net_defs.specs.Valid.{IsValidStimulus}
 use Rattle.port_host.specs.Rows.{printed_sources}
 use Rattle.machine_run.specs.Shown.{AreShown}
-use Rattle.named_files.specs.Images.{IsImageOf}
+use Rattle.call_steps.specs.Images.{IsImageOf}
 use Rattle.seen_list.specs.Filling.{Filling}
 use Rattle.trace_text.specs.Line.{HasRoom}
 use Rattle.yse_commands.specs.Outputs.{CanPrint, cycle_lines}

@@ -4,11 +4,11 @@ use Rattle.std.specs.Io.KnownBytes.{append_known}
 use Rattle.edge_io.specs.Counts.{Rose}
 use Rattle.edge_io.specs.Names.{is_absent}
 use Rattle.edge_io.specs.Writing.{TakesProperPrefix}
-use Rattle.refusal_lines.specs.declared.status.Status.{Status}
-use Rattle.refusal_lines.specs.declared.status.Status.TheVariants as status
-use Rattle.refusal_lines.specs.Lines.{write_fault_line}
-use Rattle.named_files.specs.Outcome.{Outcome}
-use Rattle.named_files.specs.Readings.{Reading}
+use Rattle.refusals.specs.declared.status.Status.{Status}
+use Rattle.refusals.specs.declared.status.Status.TheVariants as status
+use Rattle.refusals.specs.Lines.{write_fault_line}
+use Rattle.call_steps.specs.Outcome.{Outcome}
+use Rattle.call_steps.specs.Readings.{Reading}
 
 -- the statuses at which the whole output was written
 abbrev pub IsWhole : Status → Type 0

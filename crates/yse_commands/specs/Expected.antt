@@ -4,11 +4,11 @@ use Rattle.cmd_words.specs.declared.command.Command.{Command}
 use Rattle.cmd_words.specs.declared.command.Command.TheVariants as command
 use Rattle.cmd_words.specs.Forms.{HasForm}
 use Rattle.yse_commands.specs.declared.layout.Sheet.TheVariants as sheet
-use Rattle.refusal_lines.specs.declared.status.Status.TheVariants as status
-use Rattle.named_files.specs.Checks.{After}
-use Rattle.refusal_lines.specs.Lines.{usage_line}
-use Rattle.named_files.specs.Outcome.{Outcome, refusal}
-use Rattle.named_files.specs.Readings.{Reading}
+use Rattle.refusals.specs.declared.status.Status.TheVariants as status
+use Rattle.call_steps.specs.Checks.{After}
+use Rattle.refusals.specs.Lines.{usage_line}
+use Rattle.call_steps.specs.Outcome.{Outcome, refusal}
+use Rattle.call_steps.specs.Readings.{Reading}
 use Rattle.yse_commands.specs.commands.Cover.{ExpectedCover}
 use Rattle.yse_commands.specs.commands.Exec.{ExpectedExec}
 use Rattle.yse_commands.specs.commands.Fault.{ExpectedFault}

@@ -14,8 +14,8 @@ use Rattle.event_defs.specs.declared.place.CoreStep.{CoreStep}
 use Rattle.event_defs.specs.Steps.{CoreState, AreFirstSteps, AllDone, rows_done}
 use Rattle.stim_text.specs.declared.order.Order.{Order}
 use Rattle.stim_text.specs.Orders.{steps_of}
-use Rattle.named_files.specs.Outcome.{Outcome, done, unfinished}
-use Rattle.named_files.specs.Images.{IsMachineImage}
+use Rattle.call_steps.specs.Outcome.{Outcome, done, unfinished}
+use Rattle.call_steps.specs.Images.{IsMachineImage}
 
 -- the state after the steps of an order, one by one from the start, with so many banks
 pub record IsAfterOrder (order : Order) (banks : ℕ) (timing : Timing) (stimulus : Stimulus) (image : Image) (state : CoreState) : Type 0 where

@@ -4,12 +4,12 @@ use Rattle.edge_io.specs.declared.counts.FileCounts.{FileCounts}
 use Rattle.edge_io.specs.declared.writing.WriteNo.{WriteNo}
 use Rattle.yse_commands.specs.declared.output.Output.{Output}
 use Rattle.yse_commands.specs.declared.output.Output.TheVariants as output
-use Rattle.refusal_lines.specs.declared.refusal.Refusal.{Refusal}
-use Rattle.named_files.specs.Outcome.{Outcome, Turns, done, telling, unfinished}
+use Rattle.refusals.specs.declared.refusal.Refusal.{Refusal}
+use Rattle.call_steps.specs.Outcome.{Outcome, Turns, done, telling, unfinished}
 use Rattle.edge_io.specs.Writing.{joined}
 use Rattle.yse_commands.specs.Outputs.{HasTaken, lanes_bytes, run_bytes, trace_bytes, wrote_in}
-use Rattle.named_files.specs.Readings.{Reading, AreReadings}
-use Rattle.named_files.specs.Refused.{refused_of}
+use Rattle.call_steps.specs.Readings.{Reading, AreReadings}
+use Rattle.call_steps.specs.Refused.{refused_of}
 
 -- an end with the output, which may be that of a run that was not finished
 abbrev pub ended_with : Output → Outcome

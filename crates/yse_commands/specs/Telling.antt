@@ -2,9 +2,9 @@
 use Rattle.std.specs.Prelude.{ℕ, Bool, List, Option, Result}
 use Rattle.crew_run.specs.declared.gate.Gate as gate
 use Rattle.edge_io.specs.declared.counts.FileCounts.{FileCounts}
-use Rattle.named_files.specs.Outcome.{Outcome, Turns}
-use Rattle.named_files.specs.Readings.{Reading}
-use Rattle.refusal_lines.specs.declared.refusal.Refusal.{Refusal}
+use Rattle.call_steps.specs.Outcome.{Outcome, Turns}
+use Rattle.call_steps.specs.Readings.{Reading}
+use Rattle.refusals.specs.declared.refusal.Refusal.{Refusal}
 use Rattle.yse_commands.specs.declared.output.Output.{Output}
 use Rattle.yse_commands.specs.Refusals.{Follows, outcome_of, written_by}
 use Rattle.yse_commands.specs.Told.{TellsTurns}

@@ -8,15 +8,15 @@ use Rattle.large_run.specs.Setting.{large_machine}
 use Rattle.machine_run.specs.Blocks.{block_cycles}
 use Rattle.machine_run.specs.Visits.{AreVisitsOf}
 use Rattle.machine_text.specs.Machines.{ports_of}
-use Rattle.named_files.specs.Designs.{Placed}
-use Rattle.named_files.specs.Outcome.{Turns}
+use Rattle.call_steps.specs.Designs.{Placed}
+use Rattle.call_steps.specs.Outcome.{Turns}
 use Rattle.net_defs.specs.declared.netlist.Netlist.{Netlist}
 use Rattle.net_defs.specs.declared.stimulus.Stimulus.{Stimulus}
 use Rattle.net_defs.specs.declared.timing.Timing.{Timing}
 use Rattle.net_defs.specs.Time.{cycle_count}
 use Rattle.net_defs.specs.Valid.{input_count}
-use Rattle.refusal_lines.specs.declared.status.Status.{Status}
-use Rattle.refusal_lines.specs.declared.status.Status.TheVariants as status
+use Rattle.refusals.specs.declared.status.Status.{Status}
+use Rattle.refusals.specs.declared.status.Status.TheVariants as status
 use Rattle.stim_text.specs.declared.lanes.Lanes.{Lanes}
 use Rattle.stim_text.specs.Lanes.{longest}
 

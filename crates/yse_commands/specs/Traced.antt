@@ -18,7 +18,7 @@ use Rattle.cmd_words.specs.declared.command.Command.{Command}
 use Rattle.cmd_words.specs.declared.command.Command.TheVariants as command
 use Rattle.cmd_words.specs.declared.command.RunWords.{RunWords}
 use Rattle.help_text.specs.Texts.{text_of}
-use Rattle.named_files.specs.Checks.{listing}
+use Rattle.call_steps.specs.Checks.{listing}
 use Rattle.yse_commands.specs.Words.{traced_by}
 use Rattle.yse_commands.specs.commands.Cover.{IsCoverage}
 use Rattle.yse_commands.specs.commands.Fault.{IsFaultList}

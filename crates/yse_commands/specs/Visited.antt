@@ -6,8 +6,8 @@ use Rattle.edge_io.specs.Names.{OfTold}
 use Rattle.machine_text.specs.declared.machine.Machine.{Machine}
 use Rattle.machine_text.specs.Machines as machine_text
 use Rattle.machine_text.specs.Machines.{default_machine, ports_of}
-use Rattle.named_files.specs.Outcome.{Turns}
-use Rattle.named_files.specs.Passing.{placed}
+use Rattle.call_steps.specs.Outcome.{Turns}
+use Rattle.call_steps.specs.Passing.{placed}
 use Rattle.net_defs.specs.declared.netlist.Netlist.{Netlist}
 use Rattle.net_defs.specs.declared.stimulus.Stimulus.{Stimulus}
 use Rattle.cmd_words.specs.declared.command.Command.{Command}
@@ -16,7 +16,7 @@ use Rattle.cmd_words.specs.declared.command.RunWords.{RunWords}
 use Rattle.image_defs.specs.declared.file.ImageFile.{ImageFile}
 use Rattle.image_file.specs.Ranges as image_file
 use Rattle.limits.specs.declared.TheConstants.{MAX_WORKERS}
-use Rattle.refusal_lines.specs.declared.status.Status.{Status}
+use Rattle.refusals.specs.declared.status.Status.{Status}
 use Rattle.yse_commands.specs.Ends.{MayWrite}
 use Rattle.stim_text.specs.declared.lanes.Lanes.{Lanes}
 use Rattle.yse_commands.specs.Told.{TellsTurns, lanes_turns, large_turns, run_turns, wrote_at}

@@ -5,7 +5,7 @@ ghost use Rattle.yse_commands.specs.commands.Compile.{IsImageTextOf};
 
 use image_defs::ImageFile;
 use image_file::write_image;
-use named_files::Planned;
+use call_steps::Planned;
 use seen_list::{Memory, Text};
 use std::alloc::Global;
 use yse_compile::matching::designs_are_placed;

@@ -8,15 +8,15 @@ ghost use Rattle.cmd_words.specs.Forms.{IsRunInRange};
 ghost use Rattle.yse_commands.specs.Outputs.{CanWrite};
 ghost use Rattle.yse_commands.specs.Refusals.{Follows, outcome_of};
 ghost use Rattle.yse_commands.specs.commands.Cover.{ExpectedCover, IsCoverage, WritesCoverage};
-ghost use Rattle.named_files.specs.Files.{AfterStimulus};
+ghost use Rattle.call_steps.specs.Files.{AfterStimulus};
 
 use crate::output::Output;
 use cmd_words::RunWords;
 use cover_sim::{cover as marks_of, cover_lines};
 use edge_io::Files;
-use named_files::{Timed, WithRanks, design_from, ranked, stimulus_in};
+use call_steps::{Timed, WithRanks, design_from, ranked, stimulus_in};
 use net_defs::{Stimulus, Timing};
-use refusal_lines::Refusal;
+use refusals::Refusal;
 use seen_list::{List, Memory, Text};
 use std::alloc::Global;
 

@@ -7,17 +7,17 @@ ghost use Rattle.net_defs.specs.Valid.{IsFault, IsValid, IsValidStimulus, IsVali
 ghost use Rattle.cmd_words.specs.Forms.{IsRunInRange};
 ghost use Rattle.yse_commands.specs.Outputs.{CanWrite};
 ghost use Rattle.yse_commands.specs.Refusals.{Follows, outcome_of};
-ghost use Rattle.named_files.specs.Checks.{After, HasFewSignals};
+ghost use Rattle.call_steps.specs.Checks.{After, HasFewSignals};
 ghost use Rattle.yse_commands.specs.commands.Fault.{AfterListed, ExpectedFault, IsFaultList, listed_or_all};
-ghost use Rattle.named_files.specs.Files.{AfterFaultList};
+ghost use Rattle.call_steps.specs.Files.{AfterFaultList};
 
 use crate::output::Output;
 use cmd_words::RunWords;
 use edge_io::Files;
 use fault_sim::{all_faults, fault_lines, fault_list};
-use named_files::{Timed, WithRanks, design_from, faults_from, few_signals, ranked, stimulus_in};
+use call_steps::{Timed, WithRanks, design_from, faults_from, few_signals, ranked, stimulus_in};
 use net_defs::{Fault, Netlist, Stimulus, Timing};
-use refusal_lines::Refusal;
+use refusals::Refusal;
 use seen_list::{List, Memory, Text};
 use std::alloc::Global;
 use std::marker::Sync;

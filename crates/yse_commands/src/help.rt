@@ -8,7 +8,7 @@ ghost use Rattle.yse_commands.specs.commands.Help.{ExpectedHelp};
 use crate::output::Output;
 use cmd_words::Topic;
 use help_text::help_text;
-use refusal_lines::Refusal;
+use refusals::Refusal;
 use seen_list::Memory;
 use std::alloc::Global;
 

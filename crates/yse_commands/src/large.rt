@@ -3,7 +3,7 @@
 ghost use Rattle.std.specs.Prelude.{[], ◌≤◌, IfOk, Option, length};
 ghost use Rattle.limits.specs.declared.TheConstants.{MAX_LARGE_CYCLES, MAX_LARGE_GATES, MAX_WORKERS};
 ghost use Rattle.machine_run.specs.Visits.{AreInPlace};
-ghost use Rattle.named_files.specs.Outcome.{Turns};
+ghost use Rattle.call_steps.specs.Outcome.{Turns};
 ghost use Rattle.yse_commands.specs.Outputs.{CanWrite};
 ghost use Rattle.yse_commands.specs.Refusals.{outcome_of, written_by};
 ghost use Rattle.yse_commands.specs.Told.{TellsTurns};
@@ -13,7 +13,7 @@ ghost use Rattle.yse_commands.specs.commands.Large.{ExpectedLarge};
 use crate::output::Output;
 use crew_run::Gate;
 use large_run::large as run_large;
-use refusal_lines::Refusal;
+use refusals::Refusal;
 use seen_list::Memory;
 use std::alloc::Global;
 use std::marker::{Send, Sync};

@@ -11,8 +11,8 @@ use crate::output::Output;
 use crate::plan::report_of;
 use cmd_words::RunWords;
 use edge_io::Files;
-use named_files::{Planned, planned_on_machine};
-use refusal_lines::Refusal;
+use call_steps::{Planned, planned_on_machine};
+use refusals::Refusal;
 use seen_list::{Memory, Text};
 use std::alloc::Global;
 

@@ -5,20 +5,20 @@ ghost use Rattle.cmd_words.specs.Forms.{IsRunInRange};
 ghost use Rattle.yse_commands.specs.Outputs.{CanWrite};
 ghost use Rattle.yse_commands.specs.Refusals.{Follows, outcome_of};
 ghost use Rattle.yse_commands.specs.commands.Run.{EndsAfter, ExpectedOrder};
-ghost use Rattle.named_files.specs.Passing.{AfterOrderFile};
+ghost use Rattle.call_steps.specs.Passing.{AfterOrderFile};
 
 use crate::output::Output;
 use crate::steps::{by_order, by_rounds};
 use cmd_words::RunWords;
 use edge_io::Files;
-use named_files::{Ready, few_ready_cells, order_for, ready_on_machine};
-use refusal_lines::Refusal;
+use call_steps::{Ready, few_ready_cells, order_for, ready_on_machine};
+use refusals::Refusal;
 use seen_list::Memory;
 use std::alloc::Global;
 
 /// The trace of a run in the order of the named file, as far as it is done, and without one of a whole run. The machine
 /// is that of the named file, or the default machine.
-#[tactic(auto, unfolding(crate::specs::commands::Run::EndsBy))]
+#[tactic(auto, unfolding(crate::specs::commands::Run::EndsByOrder))]
 pub fn order<'a, F: Files>(
     alloc: Global,
     files: &mut F,

@@ -7,7 +7,7 @@ ghost use Rattle.edge_io.specs.Writing.{Takes};
 use edge_io::{Sink, WriteNo};
 use image_defs::Image;
 use net_defs::{Netlist, Rows, Stimulus};
-use refusal_lines::write_piece;
+use refusals::write_piece;
 use seen_list::{List, Text};
 use stim_text::Lanes;
 use trace_text::{TraceLine, write_texts, write_trace};

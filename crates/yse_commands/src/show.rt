@@ -7,9 +7,9 @@ ghost use Rattle.yse_commands.specs.commands.Show.{ExpectedShow};
 
 use crate::output::Output;
 use edge_io::Files;
-use named_files::netlist_in;
+use call_steps::netlist_in;
 use net_defs::show as canonical_text;
-use refusal_lines::Refusal;
+use refusals::Refusal;
 use seen_list::Memory;
 use std::alloc::Global;
 

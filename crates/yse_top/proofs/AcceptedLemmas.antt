@@ -36,16 +36,16 @@ use Rattle.image_file.specs.Reading.{first_fault}
 use Rattle.image_file.specs.declared.refusal.ImageNo.{ImageNo}
 use Rattle.text_lines.specs.Answers.{IsReader}
 use Rattle.image_defs.specs.Claimed.{lists_of, HasTiming, PlaceMatches, ColumnMatches}
-use Rattle.refusal_lines.specs.declared.status.Status.TheVariants as status
-use Rattle.refusal_lines.specs.Lines.{match_line}
-use Rattle.named_files.specs.Checks.{After}
-use Rattle.named_files.specs.Outcome.{Outcome, refusal, out_of_memory}
-use Rattle.named_files.specs.Readings.{Reading}
+use Rattle.refusals.specs.declared.status.Status.TheVariants as status
+use Rattle.refusals.specs.Lines.{match_line}
+use Rattle.call_steps.specs.Checks.{After}
+use Rattle.call_steps.specs.Outcome.{Outcome, refusal, out_of_memory}
+use Rattle.call_steps.specs.Readings.{Reading}
 use Rattle.yse_commands.specs.commands.Exec.{IsTaken, RunsImage}
-use Rattle.named_files.specs.Images.{IsAccepted, IsImageFileOf}
+use Rattle.call_steps.specs.Images.{IsAccepted, IsImageFileOf}
 use Rattle.yse_top.proofs.ProperLemmas.{IsCheck, IsOfText, alike, short_passes}
 use Rattle.yse_commands.proofs.lemmas.TracedLemmas.{whole_text}
-use Rattle.named_files.specs.Files.{AfterImage, AfterMatch}
+use Rattle.call_steps.specs.Files.{AfterImage, AfterMatch}
 
 -- ---- what holds of an item of one list holds of that item of the other
 

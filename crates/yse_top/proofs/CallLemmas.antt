@@ -5,16 +5,16 @@ use Rattle.edge_io.specs.Counts.{raised}
 use Rattle.edge_io.specs.declared.counts.FileCounts.{FileCounts}
 use Rattle.cmd_words.specs.declared.command.Command.{Command}
 use Rattle.cmd_words.specs.Forms.{HasForm}
-use Rattle.refusal_lines.specs.declared.refusal.Refusal.{Refusal}
-use Rattle.refusal_lines.specs.declared.refusal.Refusal.TheVariants as refusal
-use Rattle.refusal_lines.specs.declared.status.Status.{Status}
+use Rattle.refusals.specs.declared.refusal.Refusal.{Refusal}
+use Rattle.refusals.specs.declared.refusal.Refusal.TheVariants as refusal
+use Rattle.refusals.specs.declared.status.Status.{Status}
 use Rattle.yse_commands.specs.Ends.{EndsAs, MayWrite}
 use Rattle.yse_commands.specs.Expected.{Expected}
 use Rattle.yse_top.specs.Law.{IsProper}
-use Rattle.named_files.specs.Outcome.{Outcome, Turns, telling}
-use Rattle.named_files.specs.Readings.{Reading, AreReadings}
+use Rattle.call_steps.specs.Outcome.{Outcome, Turns, telling}
+use Rattle.call_steps.specs.Readings.{Reading, AreReadings}
 use Rattle.yse_commands.specs.Refusals.{Follows}
-use Rattle.named_files.specs.Refused.{refused_of}
+use Rattle.call_steps.specs.Refused.{refused_of}
 use Rattle.edge_io.proofs.lemmas.WritingLemmas.{append_known-nil}
 use Rattle.yse_commands.proofs.lemmas.ChainLemmas.{follows_here}
 use Rattle.yse_commands.proofs.lemmas.VisitedLemmas.{refused_writes}

@@ -8,17 +8,17 @@ use Rattle.edge_io.specs.declared.counts.FileCounts.{FileCounts}
 use Rattle.cmd_words.specs.Asked.{asked}
 use Rattle.cmd_words.specs.declared.command.Command.{Command}
 use Rattle.cmd_words.specs.declared.command.Command.TheVariants as command
-use Rattle.refusal_lines.specs.declared.status.Status.{Status}
-use Rattle.refusal_lines.specs.declared.status.Status.TheVariants as status
+use Rattle.refusals.specs.declared.status.Status.{Status}
+use Rattle.refusals.specs.declared.status.Status.TheVariants as status
 use Rattle.yse_top.specs.code.Came.{CameTo}
 use Rattle.yse_commands.specs.Ends.{AreToldBy, EndsAs, IsDoneOrMemory, KeepsTaken, MayWrite}
 use Rattle.yse_commands.specs.Expected.{Expected, ExpectedOf}
 use Rattle.yse_commands.specs.Traced.{IsOutputOfFiles}
 use Rattle.yse_commands.specs.Visited.{AreTold, AreTurnsOf, TellsGates}
 use Rattle.yse_top.specs.Law.{IsProper, TellsWords}
-use Rattle.refusal_lines.specs.Lines.{write_fault_line}
-use Rattle.named_files.specs.Outcome.{Outcome, Turns}
-use Rattle.named_files.specs.Readings.{Reading}
+use Rattle.refusals.specs.Lines.{write_fault_line}
+use Rattle.call_steps.specs.Outcome.{Outcome, Turns}
+use Rattle.call_steps.specs.Readings.{Reading}
 use Rattle.yse_commands.proofs.lemmas.TracedLemmas.{AreAsTold, command_told, command_traced}
 use Rattle.yse_commands.proofs.lemmas.VisitedLemmas.{whole_writes}
 use Rattle.yse_top.proofs.EndLemmas.{absent_kept, completes, fault_rose}

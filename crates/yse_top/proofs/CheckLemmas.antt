@@ -15,12 +15,12 @@ use Rattle.machine_text.specs.Machines.{default_machine, IsValid as IsValidMachi
 use Rattle.yse_compile.specs.declared.compiler.CompNo.{CompNo}
 use Rattle.yse_compile.specs.Chosen.{FitsBy}
 use Rattle.yse_compile.specs.Compiled.{IsRight, IsOverfull}
-use Rattle.refusal_lines.specs.declared.status.Status.{Status}
-use Rattle.refusal_lines.specs.declared.status.Status.TheVariants as status
-use Rattle.named_files.specs.Checks.{ReadsAs, HasNoLoop, HasRoom, IsWithin}
+use Rattle.refusals.specs.declared.status.Status.{Status}
+use Rattle.refusals.specs.declared.status.Status.TheVariants as status
+use Rattle.call_steps.specs.Checks.{ReadsAs, HasNoLoop, HasRoom, IsWithin}
 use Rattle.yse_top.specs.Law.{AreAlike}
-use Rattle.refusal_lines.specs.Lines.{loop_line, overfull_line}
-use Rattle.named_files.specs.Outcome.{Outcome, refusal}
+use Rattle.refusals.specs.Lines.{loop_line, overfull_line}
+use Rattle.call_steps.specs.Outcome.{Outcome, refusal}
 use Rattle.yse_top.proofs.ProperLemmas.{IsCheck, IsOfText, alike}
 
 -- ---- readers of texts: each reads as one thing, or has a first fault

@@ -3,12 +3,12 @@
 use Rattle.std.proofs.Common.{◌≡◌, ◌≢◌, sym, subst, inl, inr, ℕ, ◌≤◌, List, [], ◌∷◌, length, Option, Some, None, Result, Ok}
 use Rattle.std.specs.Prelude.{⊤}
 use Rattle.limits.specs.declared.TheConstants.{MAX_TEXT_BYTES}
-use Rattle.refusal_lines.specs.declared.status.Status.{Status}
-use Rattle.refusal_lines.specs.declared.status.Status.TheVariants as status
-use Rattle.named_files.specs.Checks.{After, AfterRead, AfterFile, Ends, text_of}
+use Rattle.refusals.specs.declared.status.Status.{Status}
+use Rattle.refusals.specs.declared.status.Status.TheVariants as status
+use Rattle.call_steps.specs.Checks.{After, AfterRead, AfterFile, Ends, text_of}
 use Rattle.yse_top.specs.Law.{IsProper, HasOutcome}
-use Rattle.named_files.specs.Outcome.{Outcome}
-use Rattle.named_files.specs.Readings.{Reading}
+use Rattle.call_steps.specs.Outcome.{Outcome}
+use Rattle.call_steps.specs.Readings.{Reading}
 use Rattle.yse_top.proofs.OutcomeLemmas.{outcome_after, outcome_file}
 use Rattle.yse_top.proofs.ProperLemmas.{IsOfText, IsOfEnd, IsCheck, answered, IsEnding, memory_status, text_check, passed_short, proper_after, proper_file, proper_ends}
 

@@ -5,12 +5,12 @@ use Rattle.std.proofs.lemmas.List.Sums.{sum_by-cons}
 use Rattle.edge_io.specs.Counts.{raised, Rose}
 use Rattle.edge_io.specs.Names.{is_absent, OfTold}
 use Rattle.edge_io.specs.declared.counts.FileCounts.{FileCounts}
-use Rattle.refusal_lines.specs.declared.status.Status.{Status}
-use Rattle.refusal_lines.specs.declared.status.Status.TheVariants as status
+use Rattle.refusals.specs.declared.status.Status.{Status}
+use Rattle.refusals.specs.declared.status.Status.TheVariants as status
 use Rattle.yse_commands.specs.Ends.{AreToldBy, IsDoneOrMemory}
 use Rattle.yse_top.specs.Law.{IsProper, AgreeOn}
-use Rattle.named_files.specs.Outcome.{Outcome}
-use Rattle.named_files.specs.Readings.{Reading, IsReading, AreReadings}
+use Rattle.call_steps.specs.Outcome.{Outcome}
+use Rattle.call_steps.specs.Readings.{Reading, IsReading, AreReadings}
 
 -- the member after a list
 last_at : (before : List Reading) (reading : Reading) → slice_get (before ++ reading ∷ []) (length before) ≡ Some reading

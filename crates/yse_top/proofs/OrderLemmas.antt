@@ -29,10 +29,10 @@ use Rattle.stim_text.specs.declared.order.OrderLine.{OrderLine}
 use Rattle.stim_text.specs.Orders.{IsValidOrder, steps_of}
 use Rattle.yse_compile.proofs.lemmas.DesignExists.{HasDesign}
 use Rattle.yse_top.specs.Law.{HasOutcome}
-use Rattle.named_files.specs.Images.{IsMachineImage}
+use Rattle.call_steps.specs.Images.{IsMachineImage}
 use Rattle.yse_commands.specs.Orders.{IsAfterOrder, EndsIn, EndsInOrder}
-use Rattle.named_files.specs.Checks.{Ends}
-use Rattle.named_files.specs.Outcome.{Outcome, done, unfinished}
+use Rattle.call_steps.specs.Checks.{Ends}
+use Rattle.call_steps.specs.Outcome.{Outcome, done, unfinished}
 use Rattle.yse_top.proofs.OutcomeLemmas.{outcome_ends}
 use Rattle.yse_top.proofs.ProperLemmas.{IsEnding, IsOfEnd, alike}
 

@@ -1,11 +1,11 @@
 -- A chain of checks has an outcome where each check and each end has one: one lemma for each of the links.
 use Rattle.std.proofs.Common.{◌≡◌, ◌≢◌, sym, refl, subst, ◌⊎◌, inl, inr, ℕ, zero, suc, ◌≤◌, List, [], ◌∷◌, length, Option, Some, None, Result, Ok, Err}
 use Rattle.limits.specs.declared.TheConstants.{MAX_TEXT_BYTES}
-use Rattle.refusal_lines.specs.declared.status.Status.TheVariants as status
-use Rattle.named_files.specs.Checks.{After, AfterFile, Ends, WritesTold, text_of, read_fault}
+use Rattle.refusals.specs.declared.status.Status.TheVariants as status
+use Rattle.call_steps.specs.Checks.{After, AfterFile, Ends, WritesTold, text_of, read_fault}
 use Rattle.yse_top.specs.Law.{AreGiven, HasOutcome}
-use Rattle.named_files.specs.Outcome.{Outcome, Turns, done, telling}
-use Rattle.named_files.specs.Readings.{Reading}
+use Rattle.call_steps.specs.Outcome.{Outcome, Turns, done, telling}
+use Rattle.call_steps.specs.Readings.{Reading}
 use Rattle.yse_top.proofs.ProperLemmas.{IsAnswered, answered, text_check, passed_short}
 
 given_none : (give : ℕ → List ℕ → Option (List ℕ)) → AreGiven give []

@@ -3,13 +3,13 @@ use Rattle.std.proofs.Common.{◌≡◌, ◌≢◌, ◌∙◌, sym, ap, refl, su
 use Rattle.std.specs.Prelude.{⊤, slice_get, nat_le, if◌then◌else◌}
 use Rattle.std.proofs.lemmas.Bool.{leb-true}
 use Rattle.limits.specs.declared.TheConstants.{MAX_TEXT_BYTES}
-use Rattle.refusal_lines.specs.declared.status.Status.{Status}
-use Rattle.refusal_lines.specs.declared.status.Status.TheVariants as status
-use Rattle.named_files.specs.Checks.{After, AfterRead, AfterFile, Ends, WritesTold, text_of, read_fault}
+use Rattle.refusals.specs.declared.status.Status.{Status}
+use Rattle.refusals.specs.declared.status.Status.TheVariants as status
+use Rattle.call_steps.specs.Checks.{After, AfterRead, AfterFile, Ends, WritesTold, text_of, read_fault}
 use Rattle.yse_top.specs.Law.{AreAlike, AgreeOn, HasCause, IsProper}
-use Rattle.refusal_lines.specs.Lines.{too_long_line}
-use Rattle.named_files.specs.Outcome.{Outcome, Turns, done, refusal, out_of_memory, telling}
-use Rattle.named_files.specs.Readings.{Reading}
+use Rattle.refusals.specs.Lines.{too_long_line}
+use Rattle.call_steps.specs.Outcome.{Outcome, Turns, done, refusal, out_of_memory, telling}
+use Rattle.call_steps.specs.Readings.{Reading}
 use Rattle.yse_commands.proofs.lemmas.AnswerLemmas.{never_both, passed_once, passes, refused_once, refuses}
 
 -- ---- outcomes

@@ -26,16 +26,16 @@ use Rattle.yse_compile.specs.Chosen.{IsDesign}
 use Rattle.yse_compile.specs.Claims.{AreClaimsOf}
 use Rattle.yse_compile.specs.Designs.{IsAcyclic}
 use Rattle.image_defs.specs.declared.file.Claims.{Claims}
-use Rattle.refusal_lines.specs.declared.status.Status.{Status}
-use Rattle.refusal_lines.specs.declared.status.Status.TheVariants as status
-use Rattle.named_files.specs.declared.reading.Timed.{Timed}
-use Rattle.named_files.specs.Checks.{After, AfterRead, AfterFile, Ends, HasNoLoop, HasRoom, IsListOf, IsMachineOf, IsNetlistOf, IsStimulusOf, Writes, WritesTold, listing, read_fault, text_of}
-use Rattle.named_files.specs.Files.{AfterFit, AfterImage, AfterList, AfterMachine, AfterMatch, AfterNetlist, AfterStimulus}
-use Rattle.named_files.specs.Images.{IsImageFileOf}
-use Rattle.named_files.specs.Outcome.{Outcome, Turns, out_of_memory}
-use Rattle.named_files.specs.Designs.{Placed}
-use Rattle.named_files.specs.Passing.{AfterPlaced, AfterPlacedOn, Continuation, placed}
-use Rattle.named_files.specs.Readings.{Reading}
+use Rattle.refusals.specs.declared.status.Status.{Status}
+use Rattle.refusals.specs.declared.status.Status.TheVariants as status
+use Rattle.call_steps.specs.declared.reading.Timed.{Timed}
+use Rattle.call_steps.specs.Checks.{After, AfterRead, AfterFile, Ends, HasNoLoop, HasRoom, IsListOf, IsMachineOf, IsNetlistOf, IsStimulusOf, Writes, WritesTold, listing, read_fault, text_of}
+use Rattle.call_steps.specs.Files.{AfterFit, AfterImage, AfterList, AfterMachine, AfterMatch, AfterNetlist, AfterStimulus}
+use Rattle.call_steps.specs.Images.{IsImageFileOf}
+use Rattle.call_steps.specs.Outcome.{Outcome, Turns, out_of_memory}
+use Rattle.call_steps.specs.Designs.{Placed}
+use Rattle.call_steps.specs.Passing.{AfterPlaced, AfterPlacedOn, Continuation, placed}
+use Rattle.call_steps.specs.Readings.{Reading}
 use Rattle.yse_commands.specs.Told.{run_turns}
 use Rattle.yse_commands.specs.declared.layout.Sheet.TheVariants as sheet
 use Rattle.yse_commands.specs.commands.Compile.{IsImageTextOf}

@@ -8,12 +8,12 @@ use Rattle.edge_io.specs.declared.files.Files as files
 use Rattle.edge_io.specs.declared.sink.Sink as sink
 use Rattle.edge_io.specs.Writing.{TakesLine}
 use Rattle.machine_run.specs.Visits.{AreInPlace}
-use Rattle.refusal_lines.specs.declared.status.Status.{Status}
-use Rattle.refusal_lines.specs.declared.status.Status.TheVariants.{Done, Memory, ReadFault, Words, WriteFault}
-use Rattle.refusal_lines.specs.Lines.{memory_line}
-use Rattle.refusal_lines.specs.Statuses.{status_number}
-use Rattle.named_files.specs.Outcome.{Outcome}
-use Rattle.named_files.specs.Readings.{Reading, AreReadings}
+use Rattle.refusals.specs.declared.status.Status.{Status}
+use Rattle.refusals.specs.declared.status.Status.TheVariants.{Done, Memory, ReadFault, Words, WriteFault}
+use Rattle.refusals.specs.Lines.{memory_line}
+use Rattle.refusals.specs.Statuses.{status_number}
+use Rattle.call_steps.specs.Outcome.{Outcome}
+use Rattle.call_steps.specs.Readings.{Reading, AreReadings}
 use Rattle.yse_commands.specs.Ends.{AreToldBy, EndsAs, IsDoneOrMemory, KeepsStore, KeepsTaken, MayWrite}
 use Rattle.yse_commands.specs.Expected.{Expected}
 use Rattle.yse_commands.specs.Told.{TellsTurns, wrote_at}

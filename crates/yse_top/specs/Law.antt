@@ -1,10 +1,10 @@
 -- The laws of whole calls: what is expected is one outcome, and there is one, whatever the files hold.
 use Rattle.std.specs.Prelude.{◌≡◌, ◌≢◌, ◌↔◌, ℕ, List, [], ◌∷◌, ◌++◌, ◌+◌, length, take, map, Option, Some, None, slice_get}
-use Rattle.refusal_lines.specs.declared.status.Status.TheVariants as ends
+use Rattle.refusals.specs.declared.status.Status.TheVariants as ends
 use Rattle.yse_commands.specs.Expected.{Expected}
-use Rattle.refusal_lines.specs.Lines.{read_fault_line}
-use Rattle.named_files.specs.Outcome.{Outcome}
-use Rattle.named_files.specs.Readings.{Reading}
+use Rattle.refusals.specs.Lines.{read_fault_line}
+use Rattle.call_steps.specs.Outcome.{Outcome}
+use Rattle.call_steps.specs.Readings.{Reading}
 use Rattle.cmd_words.specs.declared.command.Command.{Command}
 use Rattle.cmd_words.specs.Asked.{asked}
 use Rattle.cmd_words.specs.Forms.{HasForm}

@@ -8,10 +8,10 @@ use Rattle.edge_io.specs.Counts.{Rose}
 use Rattle.edge_io.specs.Writing.{TakesLine}
 use Rattle.edge_io.specs.declared.counts.FileCounts.{FileCounts}
 use Rattle.limits.specs.declared.TheConstants.{MAX_TEXT_BYTES}
-use Rattle.refusal_lines.specs.declared.status.Status.{Status}
-use Rattle.refusal_lines.specs.declared.status.Status.TheVariants as status
-use Rattle.named_files.specs.Outcome.{Outcome}
-use Rattle.named_files.specs.Readings.{Reading, AreReadings}
+use Rattle.refusals.specs.declared.status.Status.{Status}
+use Rattle.refusals.specs.declared.status.Status.TheVariants as status
+use Rattle.call_steps.specs.Outcome.{Outcome}
+use Rattle.call_steps.specs.Readings.{Reading, AreReadings}
 use Rattle.yse_commands.specs.Ends.{EndsAs}
 use Rattle.yse_commands.specs.Expected.{Expected}
 

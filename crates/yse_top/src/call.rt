@@ -16,7 +16,7 @@ use crate::ending::end;
 use cmd_words::{Command, WordNo, read_words};
 use crew_run::Gate;
 use edge_io::{Files, Sink};
-use refusal_lines::{Refusal, Status, refuse};
+use refusals::{Refusal, Status, refuse};
 use std::alloc::Global;
 use std::marker::{Send, Sync};
 use std::sync::Wait;

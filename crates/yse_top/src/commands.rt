@@ -13,7 +13,7 @@ ghost use Rattle.yse_commands.specs.Visited.{AllCanTell};
 use cmd_words::Command;
 use crew_run::Gate;
 use edge_io::{Files, Sink};
-use refusal_lines::Refusal;
+use refusals::Refusal;
 use std::alloc::Global;
 use std::marker::{Send, Sync};
 use std::sync::Wait;

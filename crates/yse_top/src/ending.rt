@@ -8,7 +8,7 @@ ghost use Rattle.yse_commands.specs.Refusals.{ended_with};
 ghost use Rattle.edge_io.specs.Writing.{TakesLine};
 
 use edge_io::Sink;
-use refusal_lines::{Status, tell_write_fault, write_unfinished_line};
+use refusals::{Status, tell_write_fault, write_unfinished_line};
 use yse_commands::output::{Ending, Output, write_output};
 
 /// Writes an output to `out`, as far as it is not written, and then a line to `err` where its run was not

@@ -1,6 +1,6 @@
 -- A text passes or is refused, and never both.
 use Rattle.std.proofs.Common.{◌≡◌, ℕ, List, Result, Ok, Err}
-use Rattle.named_files.specs.Outcome.{Outcome}
+use Rattle.call_steps.specs.Outcome.{Outcome}
 
 -- the two answers of the check of a text's length
 abbrev pub passes : List ℕ → Result (List ℕ) Outcome

@@ -20,17 +20,17 @@ use Rattle.image_defs.specs.declared.image.Image.{Image}
 use Rattle.machine_text.specs.declared.machine.Machine.{Machine}
 use Rattle.machine_text.specs.Machines.{default_machine, ports_of}
 use Rattle.stim_text.specs.declared.lanes.Lanes.{Lanes}
-use Rattle.refusal_lines.specs.declared.status.Status.{Status}
-use Rattle.refusal_lines.specs.declared.status.Status.TheVariants as status
-use Rattle.named_files.specs.Checks.{After, AfterRead, AfterFile, Ends, Writes, WritesTold, text_of, IsFaultListOf, IsLanesOf, HasFewBits, HasFewLaneCells, HasFewSignals, IsMachineOf, IsNetlistOf, HasNoLoop, HasRoom, IsStimulusOf, HasFewCells, IsListOf, IsOrderOf, listing}
-use Rattle.named_files.specs.Designs.{Placed, Prepared}
-use Rattle.named_files.specs.declared.reading.Timed.{Timed}
-use Rattle.named_files.specs.Passing.{AfterPlaced, AfterPlacedOn, AfterReady, Continuation, placed}
+use Rattle.refusals.specs.declared.status.Status.{Status}
+use Rattle.refusals.specs.declared.status.Status.TheVariants as status
+use Rattle.call_steps.specs.Checks.{After, AfterRead, AfterFile, Ends, Writes, WritesTold, text_of, IsFaultListOf, IsLanesOf, HasFewBits, HasFewLaneCells, HasFewSignals, IsMachineOf, IsNetlistOf, HasNoLoop, HasRoom, IsStimulusOf, HasFewCells, IsListOf, IsOrderOf, listing}
+use Rattle.call_steps.specs.Designs.{Placed, Prepared}
+use Rattle.call_steps.specs.declared.reading.Timed.{Timed}
+use Rattle.call_steps.specs.Passing.{AfterPlaced, AfterPlacedOn, AfterReady, Continuation, placed}
 use Rattle.yse_commands.specs.Ends.{MayWrite}
 use Rattle.yse_commands.specs.Expected.{ExpectedOf}
-use Rattle.named_files.specs.Outcome.{Outcome, Turns, refusal}
-use Rattle.refusal_lines.specs.Lines.{too_long_line}
-use Rattle.named_files.specs.Readings.{Reading}
+use Rattle.call_steps.specs.Outcome.{Outcome, Turns, refusal}
+use Rattle.refusals.specs.Lines.{too_long_line}
+use Rattle.call_steps.specs.Readings.{Reading}
 use Rattle.help_text.specs.Texts.{text_of as help_of}
 use Rattle.yse_commands.specs.Told.{lanes_turns, run_turns}
 use Rattle.yse_commands.specs.Traced.{AreFaultsOfFile, AreLanesOfFiles, AreOfFiles, AreTracesOfFiles, IsCoverageOfFiles, IsFaultListOfFiles, IsOutputOfFiles, IsTimingOfFile, IsTraceOfFiles}
@@ -38,15 +38,15 @@ use Rattle.yse_commands.specs.Orders.{EndsIn}
 use Rattle.yse_commands.specs.Visited.{AreTold, AreTurnsOf, AreTurnsOfFiles, AreTurnsOfImage, AreTurnsOfLanes, IsMachineOfFile}
 use Rattle.yse_commands.specs.commands.Cover.{CoversIn, ExpectedCover, IsCoverage, WritesCoverage}
 use Rattle.yse_commands.specs.commands.Fault.{AfterListed, ExpectedFault, FaultsIn, IsFaultList, ListsFaults, listed_or_all}
-use Rattle.named_files.specs.Files.{AfterFaultList, AfterFit, AfterImage, AfterLanes, AfterList, AfterMachine, AfterMatch, AfterNetlist, AfterStimulus}
+use Rattle.call_steps.specs.Files.{AfterFaultList, AfterFit, AfterImage, AfterLanes, AfterList, AfterMachine, AfterMatch, AfterNetlist, AfterStimulus}
 use Rattle.yse_commands.specs.commands.Layout.{ExpectedLayout, IsSheetOf}
 use Rattle.yse_commands.specs.declared.layout.Sheet.{Sheet}
 use Rattle.yse_commands.specs.declared.layout.Sheet.TheVariants as sheet
 use Rattle.yse_commands.specs.commands.Large.{ExpectedLarge}
 use Rattle.yse_commands.specs.commands.Pack.{AreLaneTraces, ExpectedPack, KeepsLanes, Packs}
 use Rattle.yse_commands.specs.commands.Exec.{ExpectedExec, OnImage, RunsImage}
-use Rattle.named_files.specs.Images.{IsAccepted, IsImageFileOf}
-use Rattle.yse_commands.specs.commands.Run.{AfterLoop, EndsAfter, EndsBy, ExpectedOrder, ExpectedRefer, ExpectedRun, KeepsTrace, OrdersOn, RunsOn, RunsTo, WritesTrace}
+use Rattle.call_steps.specs.Images.{IsAccepted, IsImageFileOf}
+use Rattle.yse_commands.specs.commands.Run.{AfterLoop, EndsAfter, EndsByOrder, ExpectedOrder, ExpectedRefer, ExpectedRun, KeepsTrace, OrdersOn, RunsOn, RunsTo, WritesTrace}
 use Rattle.yse_commands.specs.commands.Show.{ExpectedShow}
 use Rattle.yse_commands.proofs.lemmas.AnswerLemmas.{passes, refuses, refused_once, never_both}
 
@@ -242,9 +242,9 @@ module _ (bytes : Option (List ℕ → List ℕ)) (o : Outcome) (goes : o.told �
       by (inl (all, same)) = ((λ well. record { states = is.states; simulation = is.simulation; printed = ap (λ (p : Outcome). p.output) same }), ap (λ (p : Outcome). p.told) same)
       by (inr (some, same)) = ((λ well. absurd (unfinished (sym (ap (λ (p : Outcome). p.status) same) ∙ well))), ap (λ (p : Outcome). p.told) same)
 
-  ends_say : (file : Option (List ℕ)) (words : RunWords) (design : Placed) (stimulus : Stimulus) (readings : List Reading) → AreAsTold bytes readings → EndsBy file words design stimulus readings o
+  ends_say : (file : Option (List ℕ)) (words : RunWords) (design : Placed) (stimulus : Stimulus) (readings : List Reading) → AreAsTold bytes readings → EndsByOrder file words design stimulus readings o
       → (o.status ≡ status.Done → IsTrace design.net design.timing stimulus o.output) × (o.told ≡ None)
-  unfolding EndsBy
+  unfolding EndsByOrder
   ends_say None words design stimulus readings are expected =
       let end = wrote None (IsTrace design.net design.timing stimulus) readings expected in
       ((λ well. end.0), end.1)
@@ -279,7 +279,7 @@ module _ (bytes : Option (List ℕ → List ℕ)) (o : Outcome) (goes : o.told �
       let end = reached_ready words (OrdersOn words) readings are expected in
       let design = end.value.placed in
       let stimulus = end.value.stimulus in
-      let few = passed (HasFewCells design.net stimulus) (λ few. EndsBy words.order words design stimulus) end.others (λ e. never status.Limit _ e.1 (λ w. w)) end.next in
+      let few = passed (HasFewCells design.net stimulus) (λ few. EndsByOrder words.order words design stimulus) end.others (λ e. never status.Limit _ e.1 (λ w. w)) end.next in
       let ends = ends_say words.order words design stimulus end.others end.told few.2 in
       ((λ well. record { net = design.net; stimulus = stimulus; are = end.is.1; timing = design.timing; timing_is = end.is.0.1.1; trace = ends.0 well }), ends.1)
 

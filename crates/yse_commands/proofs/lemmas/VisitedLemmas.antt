@@ -4,12 +4,12 @@ use Rattle.std.specs.Prelude.{OnErr}
 use Rattle.crew_run.specs.declared.gate.Gate as gate
 use Rattle.edge_io.specs.declared.writing.WriteNo.{WriteNo}
 use Rattle.edge_io.specs.declared.writing.WriteNo.TheVariants.{Failed}
-use Rattle.named_files.specs.Outcome.{Turns}
-use Rattle.named_files.specs.Refused.{refused_of}
-use Rattle.refusal_lines.specs.declared.refusal.Refusal.{Refusal}
-use Rattle.refusal_lines.specs.declared.refusal.Refusal.TheVariants as refusal
-use Rattle.refusal_lines.specs.declared.status.Status.{Status}
-use Rattle.refusal_lines.specs.declared.status.Status.TheVariants as status
+use Rattle.call_steps.specs.Outcome.{Turns}
+use Rattle.call_steps.specs.Refused.{refused_of}
+use Rattle.refusals.specs.declared.refusal.Refusal.{Refusal}
+use Rattle.refusals.specs.declared.refusal.Refusal.TheVariants as refusal
+use Rattle.refusals.specs.declared.status.Status.{Status}
+use Rattle.refusals.specs.declared.status.Status.TheVariants as status
 use Rattle.yse_commands.specs.declared.output.Output.{Output}
 use Rattle.yse_commands.specs.declared.output.Output.TheVariants as output
 use Rattle.yse_commands.specs.Ends.{IsWhole, MayWrite}

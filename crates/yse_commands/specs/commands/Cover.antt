@@ -9,10 +9,10 @@ use Rattle.net_defs.specs.declared.netlist.Netlist.{Netlist}
 use Rattle.net_defs.specs.declared.stimulus.Stimulus.{Stimulus}
 use Rattle.net_defs.specs.declared.timing.Timing.{Timing}
 use Rattle.cmd_words.specs.declared.command.RunWords.{RunWords}
-use Rattle.named_files.specs.Checks.{After, Ends, Writes, HasNoLoop}
-use Rattle.named_files.specs.Outcome.{Outcome}
-use Rattle.named_files.specs.Readings.{Reading}
-use Rattle.named_files.specs.Files.{AfterNetlist, AfterStimulus}
+use Rattle.call_steps.specs.Checks.{After, Ends, Writes, HasNoLoop}
+use Rattle.call_steps.specs.Outcome.{Outcome}
+use Rattle.call_steps.specs.Readings.{Reading}
+use Rattle.call_steps.specs.Files.{AfterNetlist, AfterStimulus}
 
 -- the output is a line for the marks of each signal, and a last one on how many signals have all
 pub record IsCoverage (net : Netlist) (timing : Timing) (stimulus : Stimulus) (output : List ℕ) : Type 0 where

@@ -9,10 +9,10 @@ use Rattle.image_defs.specs.declared.image.Image.{Image}
 use Rattle.image_file.specs.Files.{image_text}
 use Rattle.image_defs.specs.declared.file.ImageFile.{ImageFile}
 use Rattle.cmd_words.specs.declared.command.RunWords.{RunWords}
-use Rattle.named_files.specs.Outcome.{Outcome, out_of_memory}
-use Rattle.named_files.specs.Readings.{Reading}
-use Rattle.named_files.specs.Checks.{After, HasNoLoop}
-use Rattle.named_files.specs.Files.{AfterImage, AfterNetlist, AfterStimulus}
+use Rattle.call_steps.specs.Outcome.{Outcome, out_of_memory}
+use Rattle.call_steps.specs.Readings.{Reading}
+use Rattle.call_steps.specs.Checks.{After, HasNoLoop}
+use Rattle.call_steps.specs.Files.{AfterImage, AfterNetlist, AfterStimulus}
 use Rattle.yse_commands.specs.commands.Run.{RunsTo}
 
 -- the stimulus, and then the trace of the run of an image

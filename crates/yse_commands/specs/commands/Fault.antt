@@ -10,10 +10,10 @@ use Rattle.net_defs.specs.declared.netlist.Netlist.{Netlist}
 use Rattle.net_defs.specs.declared.stimulus.Stimulus.{Stimulus}
 use Rattle.net_defs.specs.declared.timing.Timing.{Timing}
 use Rattle.cmd_words.specs.declared.command.RunWords.{RunWords}
-use Rattle.named_files.specs.Checks.{After, Ends, Writes, HasFewSignals, HasNoLoop}
-use Rattle.named_files.specs.Outcome.{Outcome}
-use Rattle.named_files.specs.Readings.{Reading}
-use Rattle.named_files.specs.Files.{AfterFaultList, AfterNetlist, AfterStimulus}
+use Rattle.call_steps.specs.Checks.{After, Ends, Writes, HasFewSignals, HasNoLoop}
+use Rattle.call_steps.specs.Outcome.{Outcome}
+use Rattle.call_steps.specs.Readings.{Reading}
+use Rattle.call_steps.specs.Files.{AfterFaultList, AfterNetlist, AfterStimulus}
 
 -- the stuck faults of a list, and all of the netlist where there is no list
 abbrev pub listed_or_all : Netlist → Option (List Fault) → List Fault

@@ -7,12 +7,12 @@ use Rattle.net_defs.specs.declared.timing.Timing.{Timing}
 use Rattle.cmd_words.specs.declared.command.RunWords.{RunWords}
 use Rattle.yse_commands.specs.declared.layout.Sheet.{Sheet}
 use Rattle.yse_commands.specs.declared.layout.Sheet.TheVariants as sheet
-use Rattle.named_files.specs.Checks.{Ends, Writes}
-use Rattle.named_files.specs.Outcome.{Outcome}
-use Rattle.named_files.specs.Readings.{Reading}
+use Rattle.call_steps.specs.Checks.{Ends, Writes}
+use Rattle.call_steps.specs.Outcome.{Outcome}
+use Rattle.call_steps.specs.Readings.{Reading}
 use Rattle.yse_commands.specs.commands.Compile.{IsImageTextOf}
 use Rattle.yse_commands.specs.commands.Plan.{IsReportOf}
-use Rattle.named_files.specs.Files.{AfterFit, AfterMachine, AfterNetlist}
+use Rattle.call_steps.specs.Files.{AfterFit, AfterMachine, AfterNetlist}
 
 -- the output is what is asked of the design
 abbrev pub IsSheetOf : Sheet → HomeChoice → Netlist → Machine → Timing → List ℕ → Type 0

@@ -8,12 +8,12 @@ use Rattle.net_defs.specs.declared.timing.Timing.{Timing}
 use Rattle.net_defs.specs.Trace.{IsTrace}
 use Rattle.stim_text.specs.declared.lanes.Lanes.{Lanes}
 use Rattle.cmd_words.specs.declared.command.RunWords.{RunWords}
-use Rattle.named_files.specs.Checks.{After, Ends, WritesTold, HasFewBits, HasFewLaneCells}
-use Rattle.named_files.specs.Outcome.{Outcome}
-use Rattle.named_files.specs.Readings.{Reading}
-use Rattle.named_files.specs.Designs.{Placed}
-use Rattle.named_files.specs.Files.{AfterLanes}
-use Rattle.named_files.specs.Passing.{AfterPlaced, Continuation}
+use Rattle.call_steps.specs.Checks.{After, Ends, WritesTold, HasFewBits, HasFewLaneCells}
+use Rattle.call_steps.specs.Outcome.{Outcome}
+use Rattle.call_steps.specs.Readings.{Reading}
+use Rattle.call_steps.specs.Designs.{Placed}
+use Rattle.call_steps.specs.Files.{AfterLanes}
+use Rattle.call_steps.specs.Passing.{AfterPlaced, Continuation}
 use Rattle.yse_commands.specs.Told.{lanes_turns}
 
 -- for each lane after the first n the line with its number, and then the trace of the lane's own stimulus

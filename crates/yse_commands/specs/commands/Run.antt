@@ -8,13 +8,13 @@ use Rattle.net_defs.specs.declared.stimulus.Stimulus.{Stimulus}
 use Rattle.net_defs.specs.declared.timing.Timing.{Timing}
 use Rattle.net_defs.specs.Trace.{IsTrace}
 use Rattle.cmd_words.specs.declared.command.RunWords.{RunWords}
-use Rattle.named_files.specs.Checks.{After, Ends, Writes, WritesTold, HasNoLoop, HasFewCells}
-use Rattle.named_files.specs.Designs.{Placed, Prepared}
+use Rattle.call_steps.specs.Checks.{After, Ends, Writes, WritesTold, HasNoLoop, HasFewCells}
+use Rattle.call_steps.specs.Designs.{Placed, Prepared}
 use Rattle.yse_commands.specs.Orders.{EndsInOrder}
-use Rattle.named_files.specs.Outcome.{Outcome}
-use Rattle.named_files.specs.Readings.{Reading}
-use Rattle.named_files.specs.Files.{AfterNetlist, AfterStimulus}
-use Rattle.named_files.specs.Passing.{AfterOrderFile, AfterReady, Continuation}
+use Rattle.call_steps.specs.Outcome.{Outcome}
+use Rattle.call_steps.specs.Readings.{Reading}
+use Rattle.call_steps.specs.Files.{AfterNetlist, AfterStimulus}
+use Rattle.call_steps.specs.Passing.{AfterOrderFile, AfterReady, Continuation}
 use Rattle.stim_text.specs.declared.order.Order.{Order}
 use Rattle.yse_commands.specs.Told.{run_turns}
 
@@ -39,13 +39,13 @@ EndsAfter words design stimulus order = Ends (EndsInOrder order words.banks word
 
 -- without an order file the trace is written; in the order of the named file, once its text is read, what
 -- is done by its end
-unfoldable pub EndsBy : Option (List ℕ) → RunWords → Placed → Stimulus → List Reading → Outcome → Type 0
-EndsBy None words design stimulus = WritesTrace design.net design.timing stimulus
-EndsBy (Some file) words design stimulus = AfterOrderFile file design.machine (EndsAfter words design stimulus)
+unfoldable pub EndsByOrder : Option (List ℕ) → RunWords → Placed → Stimulus → List Reading → Outcome → Type 0
+EndsByOrder None words design stimulus = WritesTrace design.net design.timing stimulus
+EndsByOrder (Some file) words design stimulus = AfterOrderFile file design.machine (EndsAfter words design stimulus)
 
 -- the cells, which are kept, and then this end
 abbrev pub OrdersOn : RunWords → Continuation Prepared
-OrdersOn words ready = After (HasFewCells ready.placed.net ready.stimulus) (λ few. EndsBy words.order words ready.placed ready.stimulus)
+OrdersOn words ready = After (HasFewCells ready.placed.net ready.stimulus) (λ few. EndsByOrder words.order words ready.placed ready.stimulus)
 
 -- the design on its machine, the stimulus, and then a run in the order of the named file, or to its end
 abbrev pub ExpectedOrder : RunWords → List Reading → Outcome → Type 0

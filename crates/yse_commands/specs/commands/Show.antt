@@ -1,9 +1,9 @@
 -- `show`: the canonical text of a netlist.
 use Rattle.std.specs.Prelude.{◌≡◌, List, ℕ}
 use Rattle.net_defs.specs.Canonical.{canonical_text}
-use Rattle.named_files.specs.Checks.{After, AfterFile, Ends, Writes, IsNetlistOf}
-use Rattle.named_files.specs.Outcome.{Outcome}
-use Rattle.named_files.specs.Readings.{Reading}
+use Rattle.call_steps.specs.Checks.{After, AfterFile, Ends, Writes, IsNetlistOf}
+use Rattle.call_steps.specs.Outcome.{Outcome}
+use Rattle.call_steps.specs.Readings.{Reading}
 
 -- the netlist file, its text, and the canonical one
 unfoldable pub ExpectedShow : List ℕ → List Reading → Outcome → Type 0

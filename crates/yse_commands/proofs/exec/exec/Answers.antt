@@ -1,10 +1,10 @@
 -- The image, the stimulus, and the run.
 use Rattle.std.proofs.Common.{Some, None, [], length, refl, inl, inr}
 use Rattle.edge_io.specs.declared.counts.FileCounts.{FileCounts}
-use Rattle.named_files.specs.declared.designs.Runnable.{Runnable}
-use Rattle.named_files.specs.Outcome.{Outcome}
-use Rattle.named_files.specs.Passing.{AfterRunnable, Continuation}
-use Rattle.named_files.proofs.lemmas.WeakerLemmas.{runnable_so}
+use Rattle.call_steps.specs.declared.designs.Runnable.{Runnable}
+use Rattle.call_steps.specs.Outcome.{Outcome}
+use Rattle.call_steps.specs.Passing.{AfterRunnable, Continuation}
+use Rattle.call_steps.proofs.lemmas.WeakerLemmas.{runnable_so}
 use Rattle.cmd_words.specs.declared.command.RunWords.{RunWords}
 use Rattle.yse_commands.specs.Refusals.{Follows}
 use Rattle.yse_commands.specs.Told.{run_turns}

@@ -1,7 +1,7 @@
 -- The order, and what is done by its end.
 use Rattle.std.proofs.Common.{refl, inl, inr}
-use Rattle.named_files.specs.Passing.{AfterOrderFile}
-use Rattle.named_files.proofs.lemmas.WeakerLemmas.{order_so}
+use Rattle.call_steps.specs.Passing.{AfterOrderFile}
+use Rattle.call_steps.proofs.lemmas.WeakerLemmas.{order_so}
 use Rattle.yse_commands.specs.commands.Run.{EndsAfter}
 use Rattle.yse_commands.proofs.lemmas.ChainLemmas.{follows_here, handed_on}
 use Rattle.yse_commands.proofs.PassingLemmas.{passed_on, stopped}

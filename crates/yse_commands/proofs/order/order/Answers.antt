@@ -1,12 +1,12 @@
 -- The design with its stimulus, the cells, and the end of the run.
 use Rattle.std.proofs.Common.{None, refl, inl, inr}
 use Rattle.edge_io.specs.declared.counts.FileCounts.{FileCounts}
-use Rattle.named_files.specs.Checks.{HasFewCells}
-use Rattle.named_files.specs.Outcome.{Outcome}
-use Rattle.named_files.specs.Passing.{AfterReady}
-use Rattle.named_files.proofs.lemmas.WeakerLemmas.{ready_so}
+use Rattle.call_steps.specs.Checks.{HasFewCells}
+use Rattle.call_steps.specs.Outcome.{Outcome}
+use Rattle.call_steps.specs.Passing.{AfterReady}
+use Rattle.call_steps.proofs.lemmas.WeakerLemmas.{ready_so}
 use Rattle.yse_commands.specs.Refusals.{Follows}
-use Rattle.yse_commands.specs.commands.Run.{EndsBy, ExpectedOrder, OrdersOn}
+use Rattle.yse_commands.specs.commands.Run.{EndsByOrder, ExpectedOrder, OrdersOn}
 use Rattle.yse_commands.proofs.lemmas.ChainLemmas.{follows_here, follows_on, follows_refusal, handed_on}
 use Rattle.yse_commands.proofs.PassingLemmas.{passed_on, stopped}
 use Rattle.yse_commands.proofs.order.order.Given as given
@@ -21,13 +21,13 @@ after_ready g c outcome new =
     passed_on _ _ (AfterReady words) (ready_so words) c.in_ok-ready.ready (OrdersOn words) _ _ _ _ _ _ c.in_ok-ready.ensures.same_names c.in_ok-ready.ensures.same_bytes c.in_ok-ready.ensures.step
 
 -- and its cells are few
-after_cells : (g : given.Over) (c : In_ok-few_ready_cells g) (outcome : Outcome) (new : FileCounts) → Follows (g.F.Files.names c.ready_on_machine.new.files) (g.F.Files.bytes c.ready_on_machine.new.files) (g.F.Files.counts c.ready_on_machine.new.files) new outcome (EndsBy c.args.words.now.order c.args.words.now c.in_ok-ready.ready.placed c.in_ok-ready.ready.stimulus)
+after_cells : (g : given.Over) (c : In_ok-few_ready_cells g) (outcome : Outcome) (new : FileCounts) → Follows (g.F.Files.names c.ready_on_machine.new.files) (g.F.Files.bytes c.ready_on_machine.new.files) (g.F.Files.counts c.ready_on_machine.new.files) new outcome (EndsByOrder c.args.words.now.order c.args.words.now c.in_ok-ready.ready.placed c.in_ok-ready.ready.stimulus)
     → Follows (g.F.Files.names c.args.files.now) (g.F.Files.bytes c.args.files.now) (g.F.Files.counts c.args.files.now) new outcome (ExpectedOrder c.args.words.now)
 after_cells g c outcome new next =
     let words = c.args.words.now in
     let ready = c.in_ok-ready.ready in
     after_ready g (goal.at.In_ok-few_ready_cells g c).In_ok-ready _ _
-    (follows_on _ _ (HasFewCells ready.placed.net ready.stimulus) (λ few. EndsBy words.order words ready.placed ready.stimulus) tt _ _ _ c.in_ok-few_ready_cells.ensures next)
+    (follows_on _ _ (HasFewCells ready.placed.net ready.stimulus) (λ few. EndsByOrder words.order words ready.placed ready.stimulus) tt _ _ _ c.in_ok-few_ready_cells.ensures next)
 
 pub returns-in_err-ready-clause-expected : goal.returns-in_err-ready-clause-expected
 returns-in_err-ready-clause-expected g c =
@@ -39,23 +39,23 @@ returns-in_err-few_ready_cells-clause-expected g c =
     let words = c.args.words.now in
     let ready = c.in_ok-ready.ready in
     handed_on _ c.from_residual-in_err-few_ready_cells.result c.from_residual-in_err-few_ready_cells.ensures (after_ready g (goal.at.returns-in_err-few_ready_cells-clause-expected g c).In_ok-ready _ _
-    (follows_refusal _ _ (HasFewCells ready.placed.net ready.stimulus) (λ few. EndsBy words.order words ready.placed ready.stimulus) _ _ c.in_err-few_ready_cells.ensures))
+    (follows_refusal _ _ (HasFewCells ready.placed.net ready.stimulus) (λ few. EndsByOrder words.order words ready.placed ready.stimulus) _ _ c.in_err-few_ready_cells.ensures))
 
 pub returns-in-Some-clause-expected : goal.returns-in-Some-clause-expected
-unfolding EndsBy
+unfolding EndsByOrder
 returns-in-Some-clause-expected g c =
     after_cells g (goal.at.returns-in-Some-clause-expected g c).In_ok-few_ready_cells _ _ (rw c.in-Some.is (rw c.as_bytes.ensures at c.in_order.ensures.expected))
 
 pub returns-in-Ok-clause-expected : goal.returns-in-Ok-clause-expected
-unfolding EndsBy
+unfolding EndsByOrder
 returns-in-Ok-clause-expected g c =
     let ready = c.in_ok-ready.ready in
     after_cells g (goal.at.returns-in-Ok-clause-expected g c).In_ok-few_ready_cells _ _
-    (rw c.in-None.is (follows_here _ _ _ _ (EndsBy None c.args.words.now ready.placed ready.stimulus) (refl, inl (_, c.in-Ok.ensures.printed, refl))))
+    (rw c.in-None.is (follows_here _ _ _ _ (EndsByOrder None c.args.words.now ready.placed ready.stimulus) (refl, inl (_, c.in-Ok.ensures.printed, refl))))
 
 pub returns-in-Err-clause-expected : goal.returns-in-Err-clause-expected
-unfolding EndsBy
+unfolding EndsByOrder
 returns-in-Err-clause-expected g c =
     let ready = c.in_ok-ready.ready in
     after_cells g (goal.at.returns-in-Err-clause-expected g c).In_ok-few_ready_cells _ _
-    (rw c.in-None.is (follows_here _ _ _ _ (EndsBy None c.args.words.now ready.placed ready.stimulus) (refl, inr refl)))
+    (rw c.in-None.is (follows_here _ _ _ _ (EndsByOrder None c.args.words.now ready.placed ready.stimulus) (refl, inr refl)))

@@ -1,11 +1,11 @@
 -- The design, the bits of its memories, the lanes, their cells, and the run.
 use Rattle.std.proofs.Common.{Some, None, refl, inl, inr}
 use Rattle.edge_io.specs.declared.counts.FileCounts.{FileCounts}
-use Rattle.named_files.specs.Checks.{Ends, HasFewBits, HasFewLaneCells, WritesTold}
-use Rattle.named_files.specs.Files.{AfterLanes}
-use Rattle.named_files.specs.Outcome.{Outcome}
-use Rattle.named_files.specs.Passing.{AfterPlaced}
-use Rattle.named_files.proofs.lemmas.WeakerLemmas.{lanes_so, placed_so}
+use Rattle.call_steps.specs.Checks.{Ends, HasFewBits, HasFewLaneCells, WritesTold}
+use Rattle.call_steps.specs.Files.{AfterLanes}
+use Rattle.call_steps.specs.Outcome.{Outcome}
+use Rattle.call_steps.specs.Passing.{AfterPlaced}
+use Rattle.call_steps.proofs.lemmas.WeakerLemmas.{lanes_so, placed_so}
 use Rattle.yse_commands.specs.Refusals.{Follows}
 use Rattle.yse_commands.specs.Told.{lanes_turns}
 use Rattle.yse_commands.specs.commands.Pack.{AreLaneTraces, ExpectedPack, KeepsLanes, Packs}

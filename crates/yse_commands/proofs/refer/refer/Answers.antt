@@ -1,10 +1,10 @@
 -- The netlist, the loop, the stimulus, and the trace.
 use Rattle.edge_io.specs.declared.counts.FileCounts.{FileCounts}
-use Rattle.named_files.specs.Checks.{HasNoLoop}
-use Rattle.named_files.specs.Outcome.{Outcome}
+use Rattle.call_steps.specs.Checks.{HasNoLoop}
+use Rattle.call_steps.specs.Outcome.{Outcome}
 use Rattle.yse_commands.specs.Refusals.{Follows}
 use Rattle.yse_commands.specs.commands.Run.{AfterLoop, ExpectedRefer, KeepsTrace}
-use Rattle.named_files.specs.Files.{AfterStimulus}
+use Rattle.call_steps.specs.Files.{AfterStimulus}
 use Rattle.yse_commands.proofs.lemmas.ChainLemmas.{follows_here, follows_on, follows_refusal, handed_on}
 use Rattle.yse_commands.proofs.PassingLemmas.{design_on, design_stops, stimulus_on, stimulus_stops}
 use Rattle.yse_commands.proofs.refer.refer.Given as given

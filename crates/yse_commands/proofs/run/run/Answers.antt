@@ -1,8 +1,8 @@
 -- The design with its stimulus, and the run.
 use Rattle.std.proofs.Common.{Some, None, refl, inl, inr}
 use Rattle.machine_text.specs.Machines.{ports_of}
-use Rattle.named_files.specs.Passing.{AfterReady}
-use Rattle.named_files.proofs.lemmas.WeakerLemmas.{ready_so}
+use Rattle.call_steps.specs.Passing.{AfterReady}
+use Rattle.call_steps.proofs.lemmas.WeakerLemmas.{ready_so}
 use Rattle.yse_commands.specs.Told.{run_turns}
 use Rattle.yse_commands.specs.commands.Run.{RunsOn}
 use Rattle.yse_commands.proofs.lemmas.ChainLemmas.{comes_silent, follows_here, handed_on}

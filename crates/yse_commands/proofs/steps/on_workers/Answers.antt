@@ -3,7 +3,7 @@ use Rattle.std.proofs.Common.{Some, subst}
 use Rattle.std.specs.Prelude.{IfOk}
 use Rattle.std.proofs.lemmas.Result.{IfOk-weaker}
 use Rattle.machine_text.specs.Machines.{ports_of}
-use Rattle.named_files.specs.Designs.{Placed, Prepared}
+use Rattle.call_steps.specs.Designs.{Placed, Prepared}
 use Rattle.yse_commands.specs.Told.{TellsTurns, run_turns}
 use Rattle.yse_commands.proofs.GateLemmas.{machine_ports}
 use Rattle.yse_commands.proofs.steps.on_workers.Goals as goal

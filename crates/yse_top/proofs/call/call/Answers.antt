@@ -4,9 +4,9 @@ use Rattle.std.specs.String.{string_bytes}
 use Rattle.cmd_words.specs.declared.command.Command.{Command}
 use Rattle.cmd_words.specs.Forms.{HasForm}
 use Rattle.cmd_words.specs.declared.command.WordNo.TheVariants.{Usage, Memory}
-use Rattle.refusal_lines.specs.declared.refusal.Refusal.TheVariants as refusal
+use Rattle.refusals.specs.declared.refusal.Refusal.TheVariants as refusal
 use Rattle.yse_commands.specs.Expected.{Expected}
-use Rattle.named_files.specs.Refused.{refused_of}
+use Rattle.call_steps.specs.Refused.{refused_of}
 use Rattle.yse_top.proofs.CallLemmas.{follows_usage, follows_no_memory, refused_ends}
 use Rattle.yse_top.proofs.call.call.Goals as goal
 

@@ -45,7 +45,7 @@ use Rattle.cmd_words.specs.declared.command.Command.TheVariants as command
 use Rattle.cmd_words.specs.declared.command.RunWords.{RunWords}
 use Rattle.cmd_words.specs.Asked.{asked}
 use Rattle.large_run.specs.Runs.{IsSummaryOf}
-use Rattle.refusal_lines.specs.declared.status.Status.TheVariants as status
+use Rattle.refusals.specs.declared.status.Status.TheVariants as status
 use Rattle.stim_text.specs.LaneTexts as lane_texts
 use Rattle.stim_text.specs.declared.lanes.Lanes.{Lanes}
 use Rattle.edge_io.specs.Writing.{joined}
@@ -53,16 +53,16 @@ use Rattle.cover_sim.specs.Lines.{cover_lines}
 use Rattle.cover_sim.specs.Marks.{HasOneCoverage, HaveOneCoverage}
 use Rattle.fault_sim.specs.Lines.{fault_lines}
 use Rattle.fault_sim.specs.Verdicts.{AreAllFaults, HasOneList, HaveOneList}
-use Rattle.named_files.specs.Checks.{After, Ends, Writes, WritesTold, IsFaultListOf, IsLanesOf, HasFewBits, HasFewLaneCells, HasFewSignals, cell_count, lane_cell_count, memory_bits, IsMachineOf, IsNetlistOf, HasNoLoop, HasRoom, IsStimulusOf, HasFewCells, IsListOf, IsOrderOf, listing}
+use Rattle.call_steps.specs.Checks.{After, Ends, Writes, WritesTold, IsFaultListOf, IsLanesOf, HasFewBits, HasFewLaneCells, HasFewSignals, cell_count, lane_cell_count, memory_bits, IsMachineOf, IsNetlistOf, HasNoLoop, HasRoom, IsStimulusOf, HasFewCells, IsListOf, IsOrderOf, listing}
 use Rattle.cmd_words.specs.Forms.{HasForm, IsInRange}
-use Rattle.refusal_lines.specs.declared.status.Status.{Status}
+use Rattle.refusals.specs.declared.status.Status.{Status}
 use Rattle.yse_commands.specs.Expected.{Expected, ExpectedOf, Asks}
 use Rattle.yse_top.specs.Law.{IsProper, HasOutcome}
-use Rattle.refusal_lines.specs.Lines.{usage_line, machine_line, netlist_line, stimulus_line, cells_line, bits_limit_line, signals_line, lanes_line, order_line, list_line, faults_line, image_line}
-use Rattle.named_files.specs.Outcome.{Outcome, Turns, done, out_of_memory, refusal, telling}
-use Rattle.named_files.specs.Designs.{Placed, Prepared}
-use Rattle.named_files.specs.Passing.{AfterPlaced, AfterPlacedOn, AfterReady, Continuation, placed}
-use Rattle.named_files.specs.Readings.{Reading}
+use Rattle.refusals.specs.Lines.{usage_line, machine_line, netlist_line, stimulus_line, cells_line, bits_limit_line, signals_line, lanes_line, order_line, list_line, faults_line, image_line}
+use Rattle.call_steps.specs.Outcome.{Outcome, Turns, done, out_of_memory, refusal, telling}
+use Rattle.call_steps.specs.Designs.{Placed, Prepared}
+use Rattle.call_steps.specs.Passing.{AfterPlaced, AfterPlacedOn, AfterReady, Continuation, placed}
+use Rattle.call_steps.specs.Readings.{Reading}
 use Rattle.yse_commands.specs.Told.{lanes_turns, large_turns, run_turns}
 use Rattle.yse_commands.specs.Orders.{EndsInOrder}
 use Rattle.cmd_words.specs.declared.topic.Topic.{Topic}
@@ -70,18 +70,18 @@ use Rattle.help_text.specs.Texts.{text_of}
 use Rattle.yse_commands.specs.Words.{files_of, files_named}
 use Rattle.yse_commands.specs.commands.Cover.{CoversIn, ExpectedCover, IsCoverage, WritesCoverage}
 use Rattle.yse_commands.specs.commands.Exec.{ExpectedExec, OnImage, RunsImage}
-use Rattle.named_files.specs.Images.{IsAccepted, IsImageFileOf}
+use Rattle.call_steps.specs.Images.{IsAccepted, IsImageFileOf}
 use Rattle.yse_commands.specs.commands.Fault.{AfterListed, ExpectedFault, FaultsIn, IsFaultList, ListsFaults, listed_or_all}
 use Rattle.yse_commands.specs.commands.Help.{ExpectedHelp}
 use Rattle.yse_commands.specs.commands.Large.{ExpectedLarge}
-use Rattle.named_files.specs.Files.{AfterFaultList, AfterFit, AfterImage, AfterLanes, AfterList, AfterMachine, AfterMatch, AfterNetlist, AfterStimulus}
+use Rattle.call_steps.specs.Files.{AfterFaultList, AfterFit, AfterImage, AfterLanes, AfterList, AfterMachine, AfterMatch, AfterNetlist, AfterStimulus}
 use Rattle.yse_commands.specs.commands.Pack.{AreLaneTraces, ExpectedPack, KeepsLanes, Packs}
 use Rattle.yse_commands.specs.commands.Compile.{IsImageTextOf}
 use Rattle.yse_commands.specs.commands.Layout.{ExpectedLayout, IsSheetOf}
 use Rattle.yse_commands.specs.commands.Plan.{IsReportOf}
 use Rattle.yse_commands.specs.declared.layout.Sheet.{Sheet}
 use Rattle.yse_commands.specs.declared.layout.Sheet.TheVariants as sheet
-use Rattle.yse_commands.specs.commands.Run.{AfterLoop, EndsAfter, EndsBy, ExpectedOrder, ExpectedRefer, ExpectedRun, KeepsTrace, OrdersOn, RunsOn, RunsTo, WritesTrace}
+use Rattle.yse_commands.specs.commands.Run.{AfterLoop, EndsAfter, EndsByOrder, ExpectedOrder, ExpectedRefer, ExpectedRun, KeepsTrace, OrdersOn, RunsOn, RunsTo, WritesTrace}
 use Rattle.yse_commands.specs.commands.Show.{ExpectedShow}
 use Rattle.yse_top.proofs.AcceptedLemmas.{accepted_check, interchangeable}
 use Rattle.yse_top.proofs.CommandLemmas.{IsCommand, command_after, command_file, command_ends, not_words}
@@ -379,8 +379,8 @@ module _ (laws : Laws) where
       ready_proper words [] (RunsOn words) timely (λ design stimulus right. trace_proper (Some (run_turns (ports_of design.machine) words design.timing design.net stimulus)) design.net design.timing stimulus right.acyclic)
 
   -- with an order file the state after the steps of the order tells the outcome
-  ends_proper : (file : Option (List ℕ)) (words : RunWords) (design : Placed) (stimulus : Stimulus) → 1 ≤ words.banks → IsRight words design → IsCommand (option_to_list file) (EndsBy file words design stimulus)
-  unfolding EndsBy
+  ends_proper : (file : Option (List ℕ)) (words : RunWords) (design : Placed) (stimulus : Stimulus) → 1 ≤ words.banks → IsRight words design → IsCommand (option_to_list file) (EndsByOrder file words design stimulus)
+  unfolding EndsByOrder
   ends_proper None words design stimulus banks right = trace_proper None design.net design.timing stimulus right.acyclic
   ends_proper (Some file) words design stimulus banks right =
       let net = design.net in
@@ -398,7 +398,7 @@ module _ (laws : Laws) where
   order_proper words banks timely =
       let files : List (List ℕ) = option_to_list words.order in
       ready_proper words files (OrdersOn words) timely (λ design stimulus right.
-      cells_proper files design.net stimulus (EndsBy words.order words design stimulus) (ends_proper words.order words design stimulus banks right))
+      cells_proper files design.net stimulus (EndsByOrder words.order words design stimulus) (ends_proper words.order words design stimulus banks right))
 
   command_proper : (asked : Command) → IsInRange asked → IsCommand (files_of asked) (ExpectedOf asked)
   command_proper (command.Run words) range = run_proper words range.timing

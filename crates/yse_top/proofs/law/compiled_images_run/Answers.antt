@@ -5,9 +5,9 @@ use Rattle.cmd_words.specs.Asked.{asked}
 use Rattle.cmd_words.specs.declared.command.Command.{Command}
 use Rattle.cmd_words.specs.declared.command.Command.TheVariants as command
 use Rattle.cmd_words.specs.Forms.{HasForm}
-use Rattle.named_files.specs.Outcome.{Outcome}
-use Rattle.named_files.specs.Readings.{Reading}
-use Rattle.refusal_lines.specs.declared.status.Status.TheVariants as status
+use Rattle.call_steps.specs.Outcome.{Outcome}
+use Rattle.call_steps.specs.Readings.{Reading}
+use Rattle.refusals.specs.declared.status.Status.TheVariants as status
 use Rattle.yse_commands.specs.Expected.{Expected, ExpectedOf}
 use Rattle.yse_commands.specs.Words.{files_named}
 use Rattle.yse_top.specs.Law.{TellsWords}

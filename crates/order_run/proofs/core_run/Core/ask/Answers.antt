@@ -8,9 +8,9 @@ use Rattle.order_run.specs.declared.core_run.Core.TheInside.{Inside}
 use Rattle.order_run.specs.Core.{Applies, CoreView}
 use Rattle.order_run.specs.code.Core.{IsUpcoming}
 use Rattle.order_run.specs.Kept.{IsKept, view_of}
-use Rattle.order_run.specs.code.Seats.{seat_asked}
-use Rattle.order_run.proofs.CoreLemmas.{ask_moves, ask_waits, at_seat, inside_of, known_within, reader_within, reseated, seat_in, seat_low, seat_there, upcoming_of}
-use Rattle.order_run.proofs.SeatLemmas.{not_less}
+use Rattle.order_run.specs.code.CorePorts.{core_port_asked}
+use Rattle.order_run.proofs.CoreLemmas.{ask_moves, ask_waits, at_core_port, inside_of, known_within, reader_within, replaced, core_port_in, core_port_low, core_port_there, upcoming_of}
+use Rattle.order_run.proofs.CorePortLemmas.{not_less}
 use Rattle.order_run.proofs.core_run.Core.ask.Goals as goal
 use Rattle.order_run.proofs.core_run.Core.ask.Goals.{After-self, After-turn-turn, After-ask}
 
@@ -23,8 +23,8 @@ module _ (c : After-self) where
   upcoming = upcoming_of c.self.inside c.args.self.now c.self.view_is c.args.port (action.Ask c.args.reader) c.requires.next
 
 -- the turn of the port
-turn_is : (c : After-turn-turn) → c.turn-turn.result ≡ (seat_there c.self.inside c.self.invariant c.args.port (within (goal.at.After-turn-turn c).After-self)).0.port.turn
-turn_is c = let first = (goal.at.After-turn-turn c).After-self in c.turn-turn.ensures _ (seat_in c.self.inside c.self.invariant c.args.port (within first) c.as_slice.result.now c.as_slice.ensures)
+turn_is : (c : After-turn-turn) → c.turn-turn.result ≡ (core_port_there c.self.inside c.self.invariant c.args.port (within (goal.at.After-turn-turn c).After-self)).0.port.turn
+turn_is c = let first = (goal.at.After-turn-turn c).After-self in c.turn-turn.ensures _ (core_port_in c.self.inside c.self.invariant c.args.port (within first) c.as_slice.result.now c.as_slice.ensures)
 
 pub bounds-as_slice-reader : goal.bounds-as_slice-reader
 bounds-as_slice-reader c =
@@ -47,13 +47,13 @@ ask-requires c =
     let a = c.self.inside in
     let first = (goal.at.ask-requires c).After-self in
     record {
-      there = seat_low a c.self.invariant c.args.port (within first) c.as_mut_slice.result.now c.as_mut_slice.ensures.value;
-      reader = at_seat a c.self.invariant c.args.port (within first) c.as_mut_slice.result.now c.as_mut_slice.ensures.value (λ s. c.args.reader < length s.known) (known_within a c.self.invariant c.args.port (within first) c.args.reader (upcoming first));
+      there = core_port_low a c.self.invariant c.args.port (within first) c.as_mut_slice.result.now c.as_mut_slice.ensures.value;
+      reader = at_core_port a c.self.invariant c.args.port (within first) c.as_mut_slice.result.now c.as_mut_slice.ensures.value (λ s. c.args.reader < length s.known) (known_within a c.self.invariant c.args.port (within first) c.args.reader (upcoming first));
     }
 
 -- the core afterwards
 abbrev after : After-ask → Inside
-after c = record c.self.inside { seats = refill (length c.self.inside.seats) c.self.inside.seats c.ask.new.seats }
+after c = record c.self.inside { core_ports = refill (length c.self.inside.core_ports) c.self.inside.core_ports c.ask.new.core_ports }
 
 moved : (c : After-ask) → IsKept (after c) × Applies (view_of c.self.inside) c.args.port (Moved (event.Ask c.args.reader)) (view_of (after c))
 moved c =
@@ -63,8 +63,8 @@ moved c =
     let r = c.args.reader in
     let at = goal.at.After-ask c in
     let first = at.After-self in
-    let seat = (seat_there a kept p (within first)).0 in
-    rw (reseated a.seats c.as_mut_slice.result.now c.ask.new.seats p (seat_asked seat r (get_or a.finished r 0)) c.as_mut_slice.ensures.value (c.ask.ensures seat (seat_in a kept p (within first) c.as_mut_slice.result.now c.as_mut_slice.ensures.value) ∙ ap (λ xs. slice_set c.as_mut_slice.result.now p (seat_asked seat r (get_or xs r 0))) c.as_slice-2.ensures))
+    let core_port = (core_port_there a kept p (within first)).0 in
+    rw (replaced a.core_ports c.as_mut_slice.result.now c.ask.new.core_ports p (core_port_asked core_port r (get_or a.finished r 0)) c.as_mut_slice.ensures.value (c.ask.ensures core_port (core_port_in a kept p (within first) c.as_mut_slice.result.now c.as_mut_slice.ensures.value) ∙ ap (λ xs. slice_set c.as_mut_slice.result.now p (core_port_asked core_port r (get_or xs r 0))) c.as_slice-2.ensures))
     (ask_moves a kept p (within first) r c.turn-turn.result (upcoming first) (turn_is at.After-turn-turn) (subst (λ xs. c.turn-turn.result - a.banks ≤ get_or xs r 0) c.as_slice-2.ensures (not_less (get_or c.as_slice-2.result.now r 0) (c.turn-turn.result - a.banks) (λ less. false≢true (c.if-lags.ensures.1 less)))))
 
 pub invariant_of-self : goal.invariant_of-self

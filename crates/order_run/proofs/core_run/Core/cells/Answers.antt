@@ -8,14 +8,14 @@ use Rattle.order_run.proofs.RoundLemmas.{first_here, host_there, image_here, sti
 use Rattle.order_run.proofs.core_run.Core.cells.Goals as goal
 
 pub cells-requires-clause-host : goal.cells-requires-clause-host
-cells-requires-clause-host c seat at = is_host c.self.inside c.self.invariant c.len.result c.len.ensures c.as_slice.result.now c.as_slice.ensures seat at
+cells-requires-clause-host c core_port at = is_host c.self.inside c.self.invariant c.len.result c.len.ensures c.as_slice.result.now c.as_slice.ensures core_port at
 
 pub cells-requires-clause-all : goal.cells-requires-clause-all
-cells-requires-clause-all c seat at = first_here c.self.inside c.self.invariant c.len.result c.len.ensures c.as_slice.result.now c.as_slice.ensures seat at
+cells-requires-clause-all c core_port at = first_here c.self.inside c.self.invariant c.len.result c.len.ensures c.as_slice.result.now c.as_slice.ensures core_port at
 
 pub cells-requires-clause-done : goal.cells-requires-clause-done
-cells-requires-clause-done c seat at =
-    let rows = rows_here c.self.inside c.self.invariant c.len.result c.len.ensures c.as_slice.result.now c.as_slice.ensures seat at in
+cells-requires-clause-done c core_port at =
+    let rows = rows_here c.self.inside c.self.invariant c.len.result c.len.ensures c.as_slice.result.now c.as_slice.ensures core_port at in
     subst (λ n. c.args.cycle ≤ n) (sym (rows ∙ ap rows_of c.self.view_is)) c.requires.done
 
 pub returns : goal.returns

@@ -7,8 +7,8 @@ use Rattle.order_run.specs.declared.core_run.Core.TheInside.{Inside}
 use Rattle.order_run.specs.Core.{Applies, CoreView}
 use Rattle.order_run.specs.code.Core.{IsUpcoming}
 use Rattle.order_run.specs.Kept.{IsKept, view_of}
-use Rattle.order_run.specs.code.Seats.{HasPutRoom, seat_put}
-use Rattle.order_run.proofs.CoreLemmas.{at_seat, can_put, early_turn, inside_of, put_moves, put_room, reseated, seat_in, seat_low, seat_there, upcoming_of}
+use Rattle.order_run.specs.code.CorePorts.{HasPutRoom, core_port_put}
+use Rattle.order_run.proofs.CoreLemmas.{at_core_port, can_put, early_turn, inside_of, put_moves, put_room, replaced, core_port_in, core_port_low, core_port_there, upcoming_of}
 use Rattle.order_run.proofs.core_run.Core.put.Goals as goal
 use Rattle.order_run.proofs.core_run.Core.put.Goals.{After-self, After-put}
 use Rattle.std.specs.List.{refill}
@@ -21,16 +21,16 @@ module _ (c : After-self) where
   upcoming : IsUpcoming (view_of c.self.inside) c.args.port (action.Put c.args.slot c.args.value)
   upcoming = upcoming_of c.self.inside c.args.self.now c.self.view_is c.args.port (action.Put c.args.slot c.args.value) c.requires.next
 
-  can : CanPut (seat_there c.self.inside c.self.invariant c.args.port within).0.port
+  can : CanPut (core_port_there c.self.inside c.self.invariant c.args.port within).0.port
   can = can_put c.self.inside c.self.invariant c.args.port within c.args.slot c.args.value upcoming
 
 pub write-requires : goal.write-requires
 write-requires c =
     let a = c.self.inside in
     let first = (goal.at.write-requires c).After-self in
-    let here = at_seat a c.self.invariant c.args.port (within first) c.as_slice.result.now c.as_slice.ensures in
+    let here = at_core_port a c.self.invariant c.args.port (within first) c.as_slice.result.now c.as_slice.ensures in
     record {
-      there = seat_low a c.self.invariant c.args.port (within first) c.as_slice.result.now c.as_slice.ensures;
+      there = core_port_low a c.self.invariant c.args.port (within first) c.as_slice.result.now c.as_slice.ensures;
       can = here (λ s. CanPut s.port) (can first);
       room = here (λ s. HasPutRoom s a.banks (length a.words)) (put_room a c.self.invariant c.args.port (within first));
       early = here (λ s. s.port.turn < 2 ^ 60) (early_turn a c.self.invariant c.args.port (within first));
@@ -41,13 +41,13 @@ pub put-requires : goal.put-requires
 put-requires c =
     let first = (goal.at.put-requires c).After-self in
     record {
-      there = seat_low c.self.inside c.self.invariant c.args.port (within first) c.as_mut_slice.result.now c.as_mut_slice.ensures.value;
-      can = at_seat c.self.inside c.self.invariant c.args.port (within first) c.as_mut_slice.result.now c.as_mut_slice.ensures.value (λ s. CanPut s.port) (can first);
+      there = core_port_low c.self.inside c.self.invariant c.args.port (within first) c.as_mut_slice.result.now c.as_mut_slice.ensures.value;
+      can = at_core_port c.self.inside c.self.invariant c.args.port (within first) c.as_mut_slice.result.now c.as_mut_slice.ensures.value (λ s. CanPut s.port) (can first);
     }
 
 -- the core afterwards
 abbrev after : (c : After-put) → Inside
-after c = record c.self.inside { seats = refill (length c.self.inside.seats) c.self.inside.seats c.put.new.seats; words = c.write.new.words }
+after c = record c.self.inside { core_ports = refill (length c.self.inside.core_ports) c.self.inside.core_ports c.put.new.core_ports; words = c.write.new.words }
 
 moved : (c : After-put) → IsKept (after c) × Applies (view_of c.self.inside) c.args.port (Moved (event.Put c.args.slot)) (view_of (after c))
 moved c =
@@ -55,7 +55,7 @@ moved c =
     let kept = c.self.invariant in
     let p = c.args.port in
     let first = (goal.at.After-put c).After-self in
-    put_moves a kept p (within first) c.args.slot c.args.value (refill (length a.seats) a.seats c.put.new.seats) c.write.new.words (upcoming first) (c.write.ensures (seat_there a kept p (within first)).0 (seat_in a kept p (within first) c.as_slice.result.now c.as_slice.ensures)) (λ i link sending. reseated a.seats c.as_mut_slice.result.now c.put.new.seats p (seat_put (seat_there a kept p (within first)).0 link.slot) c.as_mut_slice.ensures.value (c.put.ensures (seat_there a kept p (within first)).0 (seat_in a kept p (within first) c.as_mut_slice.result.now c.as_mut_slice.ensures.value) i link sending))
+    put_moves a kept p (within first) c.args.slot c.args.value (refill (length a.core_ports) a.core_ports c.put.new.core_ports) c.write.new.words (upcoming first) (c.write.ensures (core_port_there a kept p (within first)).0 (core_port_in a kept p (within first) c.as_slice.result.now c.as_slice.ensures)) (λ i link sending. replaced a.core_ports c.as_mut_slice.result.now c.put.new.core_ports p (core_port_put (core_port_there a kept p (within first)).0 link.slot) c.as_mut_slice.ensures.value (c.put.ensures (core_port_there a kept p (within first)).0 (core_port_in a kept p (within first) c.as_mut_slice.result.now c.as_mut_slice.ensures.value) i link sending))
 
 pub invariant_of-self : goal.invariant_of-self
 invariant_of-self c = (moved (goal.at.invariant_of-self c).After-put).0

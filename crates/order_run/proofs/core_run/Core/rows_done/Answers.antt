@@ -4,7 +4,7 @@ use Rattle.order_run.proofs.RoundLemmas.{host_there, is_host, rows_here}
 use Rattle.order_run.proofs.core_run.Core.rows_done.Goals as goal
 
 pub rows_done-requires-clause-host : goal.rows_done-requires-clause-host
-rows_done-requires-clause-host c seat at = is_host c.self.inside c.self.invariant c.len.result c.len.ensures c.as_slice.result.now c.as_slice.ensures seat at
+rows_done-requires-clause-host c core_port at = is_host c.self.inside c.self.invariant c.len.result c.len.ensures c.as_slice.result.now c.as_slice.ensures core_port at
 
 pub returns : goal.returns
 returns c =

@@ -9,8 +9,8 @@ use Rattle.order_run.specs.declared.core_run.Core.TheInside.{Inside}
 use Rattle.order_run.specs.Core.{Applies, CoreView}
 use Rattle.order_run.specs.code.Core.{IsUpcoming}
 use Rattle.order_run.specs.Kept.{IsKept, view_of}
-use Rattle.order_run.specs.code.Seats.{HasTakeRoom, IsWordRead, seat_taken}
-use Rattle.order_run.proofs.CoreLemmas.{at_seat, can_take, can_take_value, inside_of, reseated, seat_in, seat_low, seat_there, take_moves, take_room, take_waits, upcoming_of}
+use Rattle.order_run.specs.code.CorePorts.{HasTakeRoom, IsWordRead, core_port_taken}
+use Rattle.order_run.proofs.CoreLemmas.{at_core_port, can_take, can_take_value, inside_of, replaced, core_port_in, core_port_low, core_port_there, take_moves, take_room, take_waits, upcoming_of}
 use Rattle.order_run.proofs.core_run.Core.take.Goals as goal
 use Rattle.order_run.proofs.core_run.Core.take.Goals.{After-self, After-read-word, After-take}
 
@@ -26,16 +26,16 @@ pub read-word-requires : goal.read-word-requires
 read-word-requires c =
     let a = c.self.inside in
     let first = (goal.at.read-word-requires c).After-self in
-    let here = at_seat a c.self.invariant c.args.port (within first) c.as_slice.result.now c.as_slice.ensures in
+    let here = at_core_port a c.self.invariant c.args.port (within first) c.as_slice.result.now c.as_slice.ensures in
     record {
-      there = seat_low a c.self.invariant c.args.port (within first) c.as_slice.result.now c.as_slice.ensures;
+      there = core_port_low a c.self.invariant c.args.port (within first) c.as_slice.result.now c.as_slice.ensures;
       can = here (λ s. CanTake s.port) (can_take a c.self.invariant c.args.port (within first) c.args.slot (upcoming first));
       room = here (λ s. HasTakeRoom s a.banks (length a.words)) (take_room a c.self.invariant c.args.port (within first));
     }
 
 -- the word that was read
-read : (c : After-read-word) → IsWordRead (seat_there c.self.inside c.self.invariant c.args.port (within (goal.at.After-read-word c).After-self)).0 c.self.inside.banks c.self.inside.words c.read-word.result
-read c = let first = (goal.at.After-read-word c).After-self in c.read-word.ensures _ (seat_in c.self.inside c.self.invariant c.args.port (within first) c.as_slice.result.now c.as_slice.ensures)
+read : (c : After-read-word) → IsWordRead (core_port_there c.self.inside c.self.invariant c.args.port (within (goal.at.After-read-word c).After-self)).0 c.self.inside.banks c.self.inside.words c.read-word.result
+read c = let first = (goal.at.After-read-word c).After-self in c.read-word.ensures _ (core_port_in c.self.inside c.self.invariant c.args.port (within first) c.as_slice.result.now c.as_slice.ensures)
 
 pub returns-then-not-is_of : goal.returns-then-not-is_of
 returns-then-not-is_of c =
@@ -45,7 +45,7 @@ returns-then-not-is_of c =
     let at = goal.at.returns-then-not-is_of c in
     let first = at.After-self in
     subst (λ (v : CoreView). Applies v p NotYet v) c.self.view_is
-    (take_waits a kept p (within first) c.args.slot c.read-word.result c.turn.result (upcoming first) (read at.After-read-word) (c.turn.ensures _ (seat_in a kept p (within first) c.as_slice-2.result.now c.as_slice-2.ensures)) (λ same. false≢true (c.if-not-is_of.ensures.1 same)))
+    (take_waits a kept p (within first) c.args.slot c.read-word.result c.turn.result (upcoming first) (read at.After-read-word) (c.turn.ensures _ (core_port_in a kept p (within first) c.as_slice-2.result.now c.as_slice-2.ensures)) (λ same. false≢true (c.if-not-is_of.ensures.1 same)))
 
 pub take-requires : goal.take-requires
 take-requires c =
@@ -55,14 +55,14 @@ take-requires c =
     let at = goal.at.take-requires c in
     let first = at.After-self in
     record {
-      there = seat_low a kept p (within first) c.as_mut_slice.result.now c.as_mut_slice.ensures.value;
-      can = at_seat a kept p (within first) c.as_mut_slice.result.now c.as_mut_slice.ensures.value (λ s. CanTakeValue s.port c.decoded.result)
-          (can_take_value a kept p (within first) c.args.slot c.read-word.result c.turn.result c.decoded.result (upcoming first) (read at.After-read-word) (c.turn.ensures _ (seat_in a kept p (within first) c.as_slice-2.result.now c.as_slice-2.ensures)) (c.if-not-is_of.ensures.0 refl) c.decoded.ensures);
+      there = core_port_low a kept p (within first) c.as_mut_slice.result.now c.as_mut_slice.ensures.value;
+      can = at_core_port a kept p (within first) c.as_mut_slice.result.now c.as_mut_slice.ensures.value (λ s. CanTakeValue s.port c.decoded.result)
+          (can_take_value a kept p (within first) c.args.slot c.read-word.result c.turn.result c.decoded.result (upcoming first) (read at.After-read-word) (c.turn.ensures _ (core_port_in a kept p (within first) c.as_slice-2.result.now c.as_slice-2.ensures)) (c.if-not-is_of.ensures.0 refl) c.decoded.ensures);
     }
 
 -- the core afterwards
 abbrev after : After-take → Inside
-after c = record c.self.inside { seats = refill (length c.self.inside.seats) c.self.inside.seats c.take.new.seats }
+after c = record c.self.inside { core_ports = refill (length c.self.inside.core_ports) c.self.inside.core_ports c.take.new.core_ports }
 
 moved : (c : After-take) → IsKept (after c) × Applies (view_of c.self.inside) c.args.port (Moved (event.Take c.args.slot)) (view_of (after c))
 moved c =
@@ -71,8 +71,8 @@ moved c =
     let p = c.args.port in
     let at = goal.at.After-take c in
     let first = at.After-self in
-    take_moves a kept p (within first) c.args.slot c.read-word.result c.turn.result (refill (length a.seats) a.seats c.take.new.seats) (upcoming first) (read at.After-read-word) (c.turn.ensures _ (seat_in a kept p (within first) c.as_slice-2.result.now c.as_slice-2.ensures)) (c.if-not-is_of.ensures.0 refl)
-    (λ j link receiving. reseated a.seats c.as_mut_slice.result.now c.take.new.seats p (seat_taken (seat_there a kept p (within first)).0 link.slot) c.as_mut_slice.ensures.value (c.take.ensures _ (seat_in a kept p (within first) c.as_mut_slice.result.now c.as_mut_slice.ensures.value) j link receiving))
+    take_moves a kept p (within first) c.args.slot c.read-word.result c.turn.result (refill (length a.core_ports) a.core_ports c.take.new.core_ports) (upcoming first) (read at.After-read-word) (c.turn.ensures _ (core_port_in a kept p (within first) c.as_slice-2.result.now c.as_slice-2.ensures)) (c.if-not-is_of.ensures.0 refl)
+    (λ j link receiving. replaced a.core_ports c.as_mut_slice.result.now c.take.new.core_ports p (core_port_taken (core_port_there a kept p (within first)).0 link.slot) c.as_mut_slice.ensures.value (c.take.ensures _ (core_port_in a kept p (within first) c.as_mut_slice.result.now c.as_mut_slice.ensures.value) j link receiving))
 
 pub invariant_of-self : goal.invariant_of-self
 invariant_of-self c = (moved (goal.at.invariant_of-self c).After-take).0

@@ -1,0 +1,259 @@
+//! The files that a request names: each is begun, read and checked, one step of a call for each.
+
+ghost use Rattle.std.specs.Prelude.{◌≡◌, ◌≤◌, length, All, IfOk, IfSome, Some};
+ghost use Rattle.cmd_words.specs.Forms.{IsRunInRange};
+ghost use Rattle.image_defs.specs.Claimed.{HasClaims};
+ghost use Rattle.limits.specs.declared.TheConstants.{MAX_TEXT_BYTES};
+ghost use Rattle.machine_text.specs.Machines.{IsValid as IsValidMachine, ports_of};
+ghost use Rattle.net_defs.specs.Valid.{IsFault, IsValid, IsValidStimulus, IsValidTiming, input_count};
+ghost use Rattle.stim_text.specs.Lanes.{AreLanes};
+ghost use Rattle.stim_text.specs.Orders.{IsValidOrder};
+ghost use Rattle.call_steps.specs.Passing.{AfterNetlistFile, AfterOrderFile, AfterTimed, Passes};
+ghost use Rattle.call_steps.specs.code.Passing.{AfterImageFile};
+ghost use Rattle.call_steps.specs.code.Texts.{GivesText};
+ghost use Rattle.call_steps.specs.Files.{AfterFaultList, AfterLanes, AfterList, AfterMachine, AfterStimulus};
+
+use bench_read::law::reads_as_valid;
+use bench_read::{read_bench, read_faults, read_last};
+use cmd_words::RunWords;
+use edge_io::{Files, ReadNo, read_file};
+use image_defs::ImageFile;
+use image_file::read_image;
+use limits::MAX_TEXT_BYTES;
+use machine_text::{Machine, read_machine};
+use net_defs::{Fault, Netlist, Stimulus, Timing};
+use refusals::{
+    Refusal, of_faults, of_image, of_lanes, of_list, of_machine, of_netlist, of_order, of_stimulus,
+};
+use seen_list::{List, Text};
+use std::alloc::Global;
+use stim_text::{Lanes, Order, read_lanes, read_order, read_stim};
+
+/// A netlist, and the timing that it is run in.
+#[derive(Drop)]
+pub struct Timed {
+    pub net: Netlist,
+    pub timing: Timing,
+}
+
+/// The bytes of a file, and else why they can't be had.
+pub fn read_text<'a, F: Files>(
+    alloc: Global,
+    files: &mut F,
+    file: &'a [u8],
+) -> Result<List<u8>, Refusal<'a>>
+    ensures same_names { F.names files.new ≡ F.names files.old }
+    ensures same_bytes { F.bytes files.new ≡ F.bytes files.old }
+    ensures text { GivesText (F.names files.old) (F.bytes files.old) (F.counts files.old) (F.counts files.new) file.now result }
+    ensures short { IfOk result (λ text. length text ≤ MAX_TEXT_BYTES) }
+{
+    match read_file(alloc, files, file, MAX_TEXT_BYTES) {
+        Ok(text) => Ok(text),
+        Err(ReadNo::Failed) => Err(Refusal::ReadFault(file)),
+        Err(ReadNo::TooLong) => Err(Refusal::TooLong(file)),
+        Err(ReadNo::Memory) => Err(Refusal::Memory),
+    }
+}
+
+/// The machine of the named file, and else the default machine.
+pub fn machine_from<'a, F: Files>(
+    alloc: Global,
+    files: &mut F,
+    file: &'a Option<Text>,
+) -> Result<Machine, Refusal<'a>>
+    ensures same_names { F.names files.new ≡ F.names files.old }
+    ensures same_bytes { F.bytes files.new ≡ F.bytes files.old }
+    ensures step { Passes (F.names files.old) (F.bytes files.old) (F.counts files.old) (F.counts files.new)
+        (AfterMachine file.now) result }
+    ensures valid { IfOk result IsValidMachine }
+{
+    match file {
+        None => Ok(Machine::default_size(alloc)),
+        Some(file) => {
+            let text = read_text(alloc, files, file.as_bytes())?;
+            match read_machine(alloc, text.as_slice()) {
+                Ok(machine) => Ok(machine),
+                Err(no) => Err(of_machine(no)),
+            }
+        }
+    }
+}
+
+/// The netlist of the words, and their timing with the gates listed that the file of a list names.
+pub fn design_from<'a, F: Files>(
+    alloc: Global,
+    files: &mut F,
+    words: &'a RunWords,
+) -> Result<Timed, Refusal<'a>>
+    requires range { IsRunInRange words.now }
+    ensures same_names { F.names files.new ≡ F.names files.old }
+    ensures same_bytes { F.bytes files.new ≡ F.bytes files.old }
+    ensures step { Passes (F.names files.old) (F.bytes files.old) (F.counts files.old) (F.counts files.new)
+        (AfterTimed words.now) result }
+    ensures valid { IfOk result (λ timed. IsValid timed.net) }
+    ensures timing { IfOk result (λ timed. IsValidTiming timed.timing) }
+{
+    let net = netlist_in(alloc, files, words.netlist.as_bytes())?;
+    let timing = timing_from(alloc, files, words, &net)?;
+    Ok(Timed { net, timing })
+}
+
+/// The netlist of this file.
+pub fn netlist_in<'a, F: Files>(
+    alloc: Global,
+    files: &mut F,
+    file: &'a [u8],
+) -> Result<Netlist, Refusal<'a>>
+    ensures same_names { F.names files.new ≡ F.names files.old }
+    ensures same_bytes { F.bytes files.new ≡ F.bytes files.old }
+    ensures step { Passes (F.names files.old) (F.bytes files.old) (F.counts files.old) (F.counts files.new)
+        (AfterNetlistFile file.now) result }
+    ensures valid { IfOk result IsValid }
+{
+    let text = read_text(alloc, files, file)?;
+    let bytes = text.as_slice();
+    match read_bench(alloc, bytes) {
+        Ok(net) => {
+            reads_as_valid(bytes, &net);
+            Ok(net)
+        }
+        Err(no) => Err(of_netlist(no)),
+    }
+}
+
+/// The timing of the words, with the gates listed that the file of a list names.
+fn timing_from<'a, F: Files>(
+    alloc: Global,
+    files: &mut F,
+    words: &'a RunWords,
+    net: &Netlist,
+) -> Result<Timing, Refusal<'a>>
+    requires range { IsRunInRange words.now }
+    requires valid { IsValid net.now }
+    ensures same_names { F.names files.new ≡ F.names files.old }
+    ensures same_bytes { F.bytes files.new ≡ F.bytes files.old }
+    ensures step { Passes (F.names files.old) (F.bytes files.old) (F.counts files.old) (F.counts files.new)
+        (AfterList words.now.last net.now words.now.timing) result }
+    ensures timing { IfOk result IsValidTiming }
+{
+    match &words.last {
+        // The timing of words lists no gate, so this is a copy of it.
+        None => Ok(words.timing.listing(List::new(alloc))),
+        Some(file) => {
+            let text = read_text(alloc, files, file.as_bytes())?;
+            match read_last(alloc, text.as_slice(), net) {
+                Ok(listed) => Ok(words.timing.listing(listed)),
+                Err(no) => Err(of_list(no)),
+            }
+        }
+    }
+}
+
+/// The stuck faults that the file of a list names, where there is such a file.
+pub fn faults_from<'a, F: Files>(
+    alloc: Global,
+    files: &mut F,
+    file: &'a Option<Text>,
+    net: &Netlist,
+) -> Result<Option<List<Fault>>, Refusal<'a>>
+    requires { IsValid net.now }
+    ensures same_names { F.names files.new ≡ F.names files.old }
+    ensures same_bytes { F.bytes files.new ≡ F.bytes files.old }
+    ensures step { Passes (F.names files.old) (F.bytes files.old) (F.counts files.old) (F.counts files.new)
+        (AfterFaultList file.now net.now) result }
+    ensures faults { IfOk result (λ listed. IfSome listed (All (IsFault net.now))) }
+{
+    match file {
+        None => Ok(None),
+        Some(file) => {
+            let text = read_text(alloc, files, file.as_bytes())?;
+            match read_faults(alloc, text.as_slice(), net) {
+                Ok(faults) => Ok(Some(faults)),
+                Err(no) => Err(of_faults(no)),
+            }
+        }
+    }
+}
+
+/// The stimulus of this file, for the inputs of a netlist.
+pub fn stimulus_in<'a, F: Files>(
+    alloc: Global,
+    files: &mut F,
+    file: &'a [u8],
+    net: &Netlist,
+) -> Result<Stimulus, Refusal<'a>>
+    requires { IsValid net.now }
+    ensures same_names { F.names files.new ≡ F.names files.old }
+    ensures same_bytes { F.bytes files.new ≡ F.bytes files.old }
+    ensures step { Passes (F.names files.old) (F.bytes files.old) (F.counts files.old) (F.counts files.new)
+        (AfterStimulus file.now net.now) result }
+    ensures valid { IfOk result IsValidStimulus }
+    ensures columns { IfOk result (λ stimulus. stimulus.columns ≡ input_count net.now) }
+{
+    let text = read_text(alloc, files, file)?;
+    match read_stim(alloc, text.as_slice(), net.inputs()) {
+        Ok(stimulus) => Ok(stimulus),
+        Err(no) => Err(of_stimulus(no)),
+    }
+}
+
+/// The lanes of this file, for the inputs of a netlist.
+pub fn lanes_in<'a, F: Files>(
+    alloc: Global,
+    files: &mut F,
+    file: &'a [u8],
+    net: &Netlist,
+) -> Result<Lanes, Refusal<'a>>
+    requires { IsValid net.now }
+    ensures same_names { F.names files.new ≡ F.names files.old }
+    ensures same_bytes { F.bytes files.new ≡ F.bytes files.old }
+    ensures step { Passes (F.names files.old) (F.bytes files.old) (F.counts files.old) (F.counts files.new)
+        (AfterLanes file.now net.now) result }
+    ensures lanes { IfOk result (AreLanes (input_count net.now)) }
+{
+    let text = read_text(alloc, files, file)?;
+    match read_lanes(alloc, text.as_slice(), net.inputs()) {
+        Ok(lanes) => Ok(lanes),
+        Err(no) => Err(of_lanes(no)),
+    }
+}
+
+/// The order of this file, for the ports of a machine.
+pub fn order_in<'a, F: Files>(
+    alloc: Global,
+    files: &mut F,
+    file: &'a [u8],
+    machine: &Machine,
+) -> Result<Order, Refusal<'a>>
+    requires { IsValidMachine machine.now }
+    ensures same_names { F.names files.new ≡ F.names files.old }
+    ensures same_bytes { F.bytes files.new ≡ F.bytes files.old }
+    ensures step { Passes (F.names files.old) (F.bytes files.old) (F.counts files.old) (F.counts files.new)
+        (AfterOrderFile file.now machine.now) result }
+    ensures valid { IfOk result (IsValidOrder (ports_of machine.now)) }
+{
+    let text = read_text(alloc, files, file)?;
+    match read_order(alloc, text.as_slice(), machine.logic + machine.array + 1) {
+        Ok(order) => Ok(order),
+        Err(no) => Err(of_order(no)),
+    }
+}
+
+/// The image of this file, with its claims.
+pub fn image_in<'a, F: Files>(
+    alloc: Global,
+    files: &mut F,
+    file: &'a [u8],
+) -> Result<ImageFile, Refusal<'a>>
+    ensures same_names { F.names files.new ≡ F.names files.old }
+    ensures same_bytes { F.bytes files.new ≡ F.bytes files.old }
+    ensures step { Passes (F.names files.old) (F.bytes files.old) (F.counts files.old) (F.counts files.new)
+        (AfterImageFile file.now) result }
+    ensures claims { IfOk result HasClaims }
+{
+    let text = read_text(alloc, files, file)?;
+    match read_image(alloc, text.as_slice()) {
+        Ok(image) => Ok(image),
+        Err(no) => Err(of_image(no)),
+    }
+}

@@ -1,4 +1,0 @@
-use Rattle.refusal_lines.proofs.lines.image.write_match_line.Goals as goal
-
-pub returns-in-Place : goal.returns-in-Place
-returns-in-Place g c = rw c.in-Place.is c.write_place_line.ensures
