@@ -1,6 +1,7 @@
 -- A step of a call: it begins some files, and lets a value pass, with which the chain of checks goes on, or refuses.
 use Rattle.std.specs.Prelude.{◌≡◌, ℕ, Bool, List, ◌++◌, Option, Result, Ok, Err}
 use Rattle.edge_io.specs.declared.counts.FileCounts.{FileCounts}
+use Rattle.edge_io.specs.declared.files.Files as files
 use Rattle.cmd_words.specs.declared.command.RunWords.{RunWords}
 use Rattle.net_defs.specs.declared.netlist.Netlist.{Netlist}
 use Rattle.net_defs.specs.declared.timing.Timing.{Timing}
@@ -39,6 +40,10 @@ pub record Passes {X : Type 0} (names : Option (List ℕ → Bool)) (bytes : Opt
   pub readings : List Reading
   pub are : AreReadings names bytes old new readings
   pub steps : Steps Step readings result
+
+-- a call of files does this step with what they gave
+abbrev pub FilesPass : {F X : Type 0} → files.Ghosts F → F → F → (Continuation X → List Reading → Outcome → Type 0) → Result X Refusal → Type 0
+FilesPass tells old new = Passes (tells.names old) (tells.bytes old) (tells.counts old) (tells.counts new)
 
 -- ---- the steps that read a file of the words
 

@@ -10,7 +10,7 @@ ghost use Rattle.call_steps.specs.Checks.{HasFewCells};
 ghost use Rattle.call_steps.specs.Designs.{IsRunnable};
 ghost use Rattle.call_steps.specs.Files.{AfterLanes};
 ghost use Rattle.call_steps.specs.Images.{IsImageOf};
-ghost use Rattle.call_steps.specs.Passing.{AfterBuilt, AfterOrderFile, AfterPlaced, AfterPlacedOn, AfterReady, AfterRunnable, Passes};
+ghost use Rattle.call_steps.specs.Passing.{AfterBuilt, AfterOrderFile, AfterPlaced, AfterPlacedOn, AfterReady, AfterRunnable, FilesPass};
 ghost use Rattle.call_steps.specs.Refused.{Satisfies};
 
 use crate::checks::{Built, few_cells, of_design};
@@ -105,8 +105,7 @@ pub fn planned_on_machine<'a, F: Files>(
     requires { IsRunInRange words.now }
     ensures same_names { F.names files.new ≡ F.names files.old }
     ensures same_bytes { F.bytes files.new ≡ F.bytes files.old }
-    ensures step { Passes (F.names files.old) (F.bytes files.old) (F.counts files.old) (F.counts files.new)
-        (AfterPlaced words.now) result }
+    ensures step { FilesPass F.Files.own files.old files.new (AfterPlaced words.now) result }
     ensures homes { IfOk result (λ design. design.homes ≡ words.now.homes) }
 {
     let machine = machine_from(alloc, files, &words.machine)?;
@@ -124,8 +123,7 @@ fn place<'a, F: Files>(
     requires machine { IsValidMachine machine }
     ensures same_names { F.names files.new ≡ F.names files.old }
     ensures same_bytes { F.bytes files.new ≡ F.bytes files.old }
-    ensures step { Passes (F.names files.old) (F.bytes files.old) (F.counts files.old) (F.counts files.new)
-        (AfterPlacedOn words.now machine) result }
+    ensures step { FilesPass F.Files.own files.old files.new (AfterPlacedOn words.now machine) result }
     ensures homes { IfOk result (λ design. design.homes ≡ words.now.homes) }
 {
     let Timed { net, timing } = design_from(alloc, files, words)?;
@@ -150,8 +148,7 @@ pub fn design_on_machine<'a, F: Files>(
     requires { IsRunInRange words.now }
     ensures same_names { F.names files.new ≡ F.names files.old }
     ensures same_bytes { F.bytes files.new ≡ F.bytes files.old }
-    ensures step { Passes (F.names files.old) (F.bytes files.old) (F.counts files.old) (F.counts files.new)
-        (AfterPlaced words.now) result }
+    ensures step { FilesPass F.Files.own files.old files.new (AfterPlaced words.now) result }
     ensures homes { IfOk result (λ design. design.homes ≡ words.now.homes) }
 {
     let planned = planned_on_machine(alloc, files, words)?;
@@ -187,8 +184,7 @@ pub fn ready_on_machine<'a, F: Files>(
     requires { IsRunInRange words.now }
     ensures same_names { F.names files.new ≡ F.names files.old }
     ensures same_bytes { F.bytes files.new ≡ F.bytes files.old }
-    ensures step { Passes (F.names files.old) (F.bytes files.old) (F.counts files.old) (F.counts files.new)
-        (AfterReady words.now) result }
+    ensures step { FilesPass F.Files.own files.old files.new (AfterReady words.now) result }
     ensures homes { IfOk result (λ ready. ready.placed.homes ≡ words.now.homes) }
 {
     let design = design_on_machine(alloc, files, words)?;
@@ -206,8 +202,7 @@ pub fn runnable_in<'a, F: Files>(
     requires { IsRunInRange words.now }
     ensures same_names { F.names files.new ≡ F.names files.old }
     ensures same_bytes { F.bytes files.new ≡ F.bytes files.old }
-    ensures step { Passes (F.names files.old) (F.bytes files.old) (F.counts files.old) (F.counts files.new)
-        (AfterRunnable words.now file.now) result }
+    ensures step { FilesPass F.Files.own files.old files.new (AfterRunnable words.now file.now) result }
     ensures runnable { IfOk result IsRunnable }
 {
     let Timed { net, timing } = design_from(alloc, files, words)?;
@@ -227,8 +222,7 @@ fn built_in<'a, F: Files>(
     requires timing { IsValidTiming timing.now }
     ensures same_names { F.names files.new ≡ F.names files.old }
     ensures same_bytes { F.bytes files.new ≡ F.bytes files.old }
-    ensures step { Passes (F.names files.old) (F.bytes files.old) (F.counts files.old) (F.counts files.new)
-        (AfterBuilt file.now net timing.now) result }
+    ensures step { FilesPass F.Files.own files.old files.new (AfterBuilt file.now net timing.now) result }
     ensures same { IfOk result (λ built. built.net ≡ net) }
     ensures image { IfOk result (λ built. IsImageOf net timing.now built.image) }
 {
@@ -246,8 +240,7 @@ pub fn lanes_for<'a, F: Files>(
 ) -> Result<Lanes, Refusal<'a>>
     ensures same_names { F.names files.new ≡ F.names files.old }
     ensures same_bytes { F.bytes files.new ≡ F.bytes files.old }
-    ensures step { Passes (F.names files.old) (F.bytes files.old) (F.counts files.old) (F.counts files.new)
-        (AfterLanes words.now.stimulus design.now.net) result }
+    ensures step { FilesPass F.Files.own files.old files.new (AfterLanes words.now.stimulus design.now.net) result }
     ensures lanes { IfOk result (AreLanes (input_count design.now.net)) }
 {
     lanes_in(alloc, files, words.stimulus.as_bytes(), &design.run.net)
@@ -262,8 +255,7 @@ pub fn order_for<'a, F: Files>(
 ) -> Result<Order, Refusal<'a>>
     ensures same_names { F.names files.new ≡ F.names files.old }
     ensures same_bytes { F.bytes files.new ≡ F.bytes files.old }
-    ensures step { Passes (F.names files.old) (F.bytes files.old) (F.counts files.old) (F.counts files.new)
-        (AfterOrderFile file.now ready.now.placed.machine) result }
+    ensures step { FilesPass F.Files.own files.old files.new (AfterOrderFile file.now ready.now.placed.machine) result }
     ensures valid { IfOk result (IsValidOrder (ports_of ready.now.placed.machine)) }
 {
     let design = &ready.design;

@@ -8,7 +8,7 @@ ghost use Rattle.machine_text.specs.Machines.{IsValid as IsValidMachine, ports_o
 ghost use Rattle.net_defs.specs.Valid.{IsFault, IsValid, IsValidStimulus, IsValidTiming, input_count};
 ghost use Rattle.stim_text.specs.Lanes.{AreLanes};
 ghost use Rattle.stim_text.specs.Orders.{IsValidOrder};
-ghost use Rattle.call_steps.specs.Passing.{AfterNetlistFile, AfterOrderFile, AfterTimed, Passes};
+ghost use Rattle.call_steps.specs.Passing.{AfterNetlistFile, AfterOrderFile, AfterTimed, FilesPass};
 ghost use Rattle.call_steps.specs.code.Passing.{AfterImageFile};
 ghost use Rattle.call_steps.specs.code.Texts.{GivesText};
 ghost use Rattle.call_steps.specs.Files.{AfterFaultList, AfterLanes, AfterList, AfterMachine, AfterStimulus};
@@ -63,8 +63,7 @@ pub fn machine_from<'a, F: Files>(
 ) -> Result<Machine, Refusal<'a>>
     ensures same_names { F.names files.new ≡ F.names files.old }
     ensures same_bytes { F.bytes files.new ≡ F.bytes files.old }
-    ensures step { Passes (F.names files.old) (F.bytes files.old) (F.counts files.old) (F.counts files.new)
-        (AfterMachine file.now) result }
+    ensures step { FilesPass F.Files.own files.old files.new (AfterMachine file.now) result }
     ensures valid { IfOk result IsValidMachine }
 {
     match file {
@@ -88,8 +87,7 @@ pub fn design_from<'a, F: Files>(
     requires range { IsRunInRange words.now }
     ensures same_names { F.names files.new ≡ F.names files.old }
     ensures same_bytes { F.bytes files.new ≡ F.bytes files.old }
-    ensures step { Passes (F.names files.old) (F.bytes files.old) (F.counts files.old) (F.counts files.new)
-        (AfterTimed words.now) result }
+    ensures step { FilesPass F.Files.own files.old files.new (AfterTimed words.now) result }
     ensures valid { IfOk result (λ timed. IsValid timed.net) }
     ensures timing { IfOk result (λ timed. IsValidTiming timed.timing) }
 {
@@ -106,8 +104,7 @@ pub fn netlist_in<'a, F: Files>(
 ) -> Result<Netlist, Refusal<'a>>
     ensures same_names { F.names files.new ≡ F.names files.old }
     ensures same_bytes { F.bytes files.new ≡ F.bytes files.old }
-    ensures step { Passes (F.names files.old) (F.bytes files.old) (F.counts files.old) (F.counts files.new)
-        (AfterNetlistFile file.now) result }
+    ensures step { FilesPass F.Files.own files.old files.new (AfterNetlistFile file.now) result }
     ensures valid { IfOk result IsValid }
 {
     let text = read_text(alloc, files, file)?;
@@ -132,8 +129,7 @@ fn timing_from<'a, F: Files>(
     requires valid { IsValid net.now }
     ensures same_names { F.names files.new ≡ F.names files.old }
     ensures same_bytes { F.bytes files.new ≡ F.bytes files.old }
-    ensures step { Passes (F.names files.old) (F.bytes files.old) (F.counts files.old) (F.counts files.new)
-        (AfterList words.now.last net.now words.now.timing) result }
+    ensures step { FilesPass F.Files.own files.old files.new (AfterList words.now.last net.now words.now.timing) result }
     ensures timing { IfOk result IsValidTiming }
 {
     match &words.last {
@@ -159,8 +155,7 @@ pub fn faults_from<'a, F: Files>(
     requires { IsValid net.now }
     ensures same_names { F.names files.new ≡ F.names files.old }
     ensures same_bytes { F.bytes files.new ≡ F.bytes files.old }
-    ensures step { Passes (F.names files.old) (F.bytes files.old) (F.counts files.old) (F.counts files.new)
-        (AfterFaultList file.now net.now) result }
+    ensures step { FilesPass F.Files.own files.old files.new (AfterFaultList file.now net.now) result }
     ensures faults { IfOk result (λ listed. IfSome listed (All (IsFault net.now))) }
 {
     match file {
@@ -185,8 +180,7 @@ pub fn stimulus_in<'a, F: Files>(
     requires { IsValid net.now }
     ensures same_names { F.names files.new ≡ F.names files.old }
     ensures same_bytes { F.bytes files.new ≡ F.bytes files.old }
-    ensures step { Passes (F.names files.old) (F.bytes files.old) (F.counts files.old) (F.counts files.new)
-        (AfterStimulus file.now net.now) result }
+    ensures step { FilesPass F.Files.own files.old files.new (AfterStimulus file.now net.now) result }
     ensures valid { IfOk result IsValidStimulus }
     ensures columns { IfOk result (λ stimulus. stimulus.columns ≡ input_count net.now) }
 {
@@ -207,8 +201,7 @@ pub fn lanes_in<'a, F: Files>(
     requires { IsValid net.now }
     ensures same_names { F.names files.new ≡ F.names files.old }
     ensures same_bytes { F.bytes files.new ≡ F.bytes files.old }
-    ensures step { Passes (F.names files.old) (F.bytes files.old) (F.counts files.old) (F.counts files.new)
-        (AfterLanes file.now net.now) result }
+    ensures step { FilesPass F.Files.own files.old files.new (AfterLanes file.now net.now) result }
     ensures lanes { IfOk result (AreLanes (input_count net.now)) }
 {
     let text = read_text(alloc, files, file)?;
@@ -228,8 +221,7 @@ pub fn order_in<'a, F: Files>(
     requires { IsValidMachine machine.now }
     ensures same_names { F.names files.new ≡ F.names files.old }
     ensures same_bytes { F.bytes files.new ≡ F.bytes files.old }
-    ensures step { Passes (F.names files.old) (F.bytes files.old) (F.counts files.old) (F.counts files.new)
-        (AfterOrderFile file.now machine.now) result }
+    ensures step { FilesPass F.Files.own files.old files.new (AfterOrderFile file.now machine.now) result }
     ensures valid { IfOk result (IsValidOrder (ports_of machine.now)) }
 {
     let text = read_text(alloc, files, file)?;
@@ -247,8 +239,7 @@ pub fn image_in<'a, F: Files>(
 ) -> Result<ImageFile, Refusal<'a>>
     ensures same_names { F.names files.new ≡ F.names files.old }
     ensures same_bytes { F.bytes files.new ≡ F.bytes files.old }
-    ensures step { Passes (F.names files.old) (F.bytes files.old) (F.counts files.old) (F.counts files.new)
-        (AfterImageFile file.now) result }
+    ensures step { FilesPass F.Files.own files.old files.new (AfterImageFile file.now) result }
     ensures claims { IfOk result HasClaims }
 {
     let text = read_text(alloc, files, file)?;

@@ -4,6 +4,7 @@ use Rattle.std.specs.List.{flat_map}
 use Rattle.std.specs.Io.KnownBytes.{append_known}
 use Rattle.edge_io.specs.Counts.{Rose}
 use Rattle.edge_io.specs.declared.writing.WriteNo.{WriteNo}
+use Rattle.edge_io.specs.declared.sink.Sink as sink
 
 -- a proper prefix of the piece was taken
 pub record TakesProperPrefix (old new : Option (List ℕ)) (piece : List ℕ) : Type 0 where
@@ -22,6 +23,10 @@ pub record Takes (old new : Option (List ℕ)) (faults_old faults_new : ℕ) (re
   pub prefix : OnErr result (TakesProperPrefix old new piece)
   pub failed : OnErr result (Rose faults_old faults_new)
   pub kept : faults_old ≤ faults_new
+
+-- a sink was given the piece: it took the whole of it, or a proper prefix after a fault that it counted
+abbrev pub Writes : {S : Type 0} → sink.Ghosts S → S → S → Result (Unit {0}) WriteNo → List ℕ → Type 0
+Writes tells old new = Takes (tells.taken old) (tells.taken new) (tells.faults old) (tells.faults new)
 
 -- a sink that took `old` and now `new` has taken a front of the line, and all of it unless its faults rose, which
 -- never fell

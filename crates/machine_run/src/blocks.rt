@@ -7,7 +7,7 @@ ghost use Rattle.machine_run.specs.Blocks.{AreVisitsOfRun, window_of};
 ghost use Rattle.machine_run.specs.Lines.{bytes_of_run, cells_shown, lines_between};
 ghost use Rattle.machine_run.specs.Stops.{StopsInBlock};
 ghost use Rattle.crew_run.specs.Crews.{CanTell};
-ghost use Rattle.edge_io.specs.Writing.{Takes};
+ghost use Rattle.edge_io.specs.Writing.{Writes};
 ghost use Rattle.image_defs.specs.WellFormed.{IsWellFormed};
 ghost use Rattle.machine_run.specs.Crews.{at_block_end, at_first, rows_at_end, turns_left, turns_made};
 ghost use Rattle.machine_run.specs.Visits.{AllCanTellTurns, AreInPlace, AreVisitsBetween};
@@ -58,7 +58,7 @@ fn run_block<R: Threads + Wait + Sync, G: Gate + Send, O: Sink>(
     ensures tell { AllCanTellTurns G.Gate.own (turns_left crew.new) crew.old.workers gates.new }
     ensures kept { AreInPlace gates.old gates.new }
     ensures room { line.new.room ≡ line.old.room }
-    ensures written { Takes (O.taken out.old) (O.taken out.new) (O.faults out.old) (O.faults out.new) result (lines_between (cells_shown crew.old.image crew.old.stimulus) crew.old.first_row (rows_at_end crew.old)) }
+    ensures written { Writes O.Sink.own out.old out.new result (lines_between (cells_shown crew.old.image crew.old.stimulus) crew.old.first_row (rows_at_end crew.old)) }
 {
     crew.run_block(rt, gates);
     write_rows(out, line, crew.host())
@@ -79,7 +79,7 @@ fn run_all<R: Threads + Wait + Sync, G: Gate + Send, O: Sink>(
     requires enough { crew.old.workers ≤ length gates.old }
     requires tell { AllCanTellTurns G.Gate.own (turns_left crew.old) crew.old.workers gates.old }
     requires room { row_room (length (printed_sources crew.old.image)) ≤ line.old.room }
-    ensures written { Takes (O.taken out.old) (O.taken out.new) (O.faults out.old) (O.faults out.new) result (lines_between (cells_shown crew.old.image crew.old.stimulus) 0 cycles) }
+    ensures written { Writes O.Sink.own out.old out.new result (lines_between (cells_shown crew.old.image crew.old.stimulus) 0 cycles) }
     ensures visits { AreVisitsOfRun G.Gate.own crew.old.image crew.old.stimulus crew.old.workers gates.old gates.new result }
     ensures stopped { (net : Netlist) (before : Option (List ℕ)) → O.taken out.old ≡ append_known before (header_line net) → OnErr result (StopsInBlock net crew.old.image crew.old.stimulus G.Gate.own crew.old.workers gates.old gates.new before (O.taken out.new)) }
     ensures kept { AreInPlace gates.old gates.new }
@@ -112,7 +112,7 @@ fn write_run<R: Threads + Wait + Sync, G: Gate + Send, O: Sink>(
     requires tell { AllCanTellTurns G.Gate.own (turns_left crew.old) crew.old.workers gates.old }
     requires printed { length net.now.printed ≡ length (printed_sources crew.old.image) }
     requires room { HasRoom net.now line.old }
-    ensures written { Takes (O.taken out.old) (O.taken out.new) (O.faults out.old) (O.faults out.new) result (bytes_of_run net.now crew.old.image crew.old.stimulus) }
+    ensures written { Writes O.Sink.own out.old out.new result (bytes_of_run net.now crew.old.image crew.old.stimulus) }
     ensures visits { AreVisitsOfRun G.Gate.own crew.old.image crew.old.stimulus crew.old.workers gates.old gates.new result }
     ensures stopped { OnErr result (StopsInBlock net.now crew.old.image crew.old.stimulus G.Gate.own crew.old.workers gates.old gates.new (O.taken out.old) (O.taken out.new)) }
     ensures kept { AreInPlace gates.old gates.new }
@@ -149,7 +149,7 @@ pub fn run_blocks<R: Threads + Wait + Sync, G: Gate + Send, O: Sink>(
     requires some_workers { 1 ≤ division.workers }
     requires enough { division.workers ≤ length gates.old }
     requires tell { (i : ℕ) (gate : Option G) → i < division.workers → slice_get gates.old i ≡ Some gate → CanTell G.Gate.own gate }
-    ensures written { IfOk result (λ wrote. Takes (O.taken out.old) (O.taken out.new) (O.faults out.old) (O.faults out.new) wrote (bytes_of_run net.now image.now stim.now)) }
+    ensures written { IfOk result (λ wrote. Writes O.Sink.own out.old out.new wrote (bytes_of_run net.now image.now stim.now)) }
     ensures visits { IfOk result (AreVisitsOfRun G.Gate.own image.now stim.now division.workers gates.old gates.new) }
     ensures stopped { IfOk result (λ wrote. OnErr wrote (StopsInBlock net.now image.now stim.now G.Gate.own division.workers gates.old gates.new (O.taken out.old) (O.taken out.new))) }
     ensures unwritten { OnErr result (out.new ≡ out.old) }

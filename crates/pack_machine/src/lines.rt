@@ -2,7 +2,7 @@
 
 ghost use Rattle.std.specs.Prelude.{IfOk, Some, length, slice_get, ◌+◌, ◌<◌, ◌≡◌, ◌≤◌};
 ghost use Rattle.machine_run.specs.Lines.{lines_between};
-ghost use Rattle.edge_io.specs.Writing.{Takes};
+ghost use Rattle.edge_io.specs.Writing.{Writes};
 ghost use Rattle.image_defs.specs.declared.image.Image.{Image};
 ghost use Rattle.port_host.specs.Rows.{printed_sources};
 ghost use Rattle.stim_text.specs.Lanes.{AreLanes, longest};
@@ -67,7 +67,7 @@ fn write_rows<O: Sink>(
     requires done { cycles ≤ longest host.now.feed }
     requires room { HasLineRoom _net.now host.now.image room.old }
     ensures room { HasLineRoom _net.now host.now.image room.new }
-    ensures written { Takes (O.taken out.old) (O.taken out.new) (O.faults out.old) (O.faults out.new) result (lines_between (cells_in_lane host.now lane) 0 cycles) }
+    ensures written { Writes O.Sink.own out.old out.new result (lines_between (cells_in_lane host.now lane) 0 cycles) }
 {
     'rows: for c in 0..cycles {
         fill_row(&mut room.row, host, lane, c + 1);
@@ -91,7 +91,7 @@ fn write_lane<O: Sink>(
     requires lane { slice_get host.now.feed.lanes lane ≡ Some stim.now }
     requires room { HasLineRoom net.now host.now.image room.old }
     ensures room { HasLineRoom net.now host.now.image room.new }
-    ensures written { Takes (O.taken out.old) (O.taken out.new) (O.faults out.old) (O.faults out.new) result (bytes_of_lane net.now host.now.image (lane + 1) stim.now) }
+    ensures written { Writes O.Sink.own out.old out.new result (bytes_of_lane net.now host.now.image (lane + 1) stim.now) }
 {
     room.mark.lane(lane + 1);
     write_piece(out, room.mark.bytes())?;
@@ -111,7 +111,7 @@ pub(crate) fn write_lanes<O: Sink>(
     requires host { IsHostAtEnd host.now.image lanes.now host.now }
     requires lanes { AreLanes host.now.image.columns lanes.now }
     requires room { HasLineRoom net.now host.now.image room.old }
-    ensures { Takes (O.taken out.old) (O.taken out.new) (O.faults out.old) (O.faults out.new) result (bytes_of_lanes net.now host.now.image lanes.now) }
+    ensures { Writes O.Sink.own out.old out.new result (bytes_of_lanes net.now host.now.image lanes.now) }
 {
     'lanes: for l in 0..lanes.lanes.len() {
         let stim = &lanes.lanes.as_slice()[l];

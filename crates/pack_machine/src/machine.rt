@@ -2,7 +2,7 @@
 
 ghost use Rattle.std.specs.Prelude.{IfOk, OnErr, OnOk, Option, Some, length, slice_get, ℕ, ◌*◌, ◌<◌, ◌≡◌, ◌≤◌};
 ghost use Rattle.crew_run.specs.Crews.{CanTell};
-ghost use Rattle.edge_io.specs.Writing.{Takes};
+ghost use Rattle.edge_io.specs.Writing.{Writes};
 ghost use Rattle.image_defs.specs.WellFormed.{IsWellFormed};
 ghost use Rattle.machine_run.specs.Visits.{AreInPlace, AreVisitsOf};
 ghost use Rattle.port_host.specs.Rows.{printed_sources};
@@ -55,7 +55,7 @@ pub fn run_pack<R: Threads + Wait + Sync, G: Gate + Send, O: Sink>(
     requires some_workers { 1 ≤ workers }
     requires enough { workers ≤ length gates.old }
     requires tell { (i : ℕ) (gate : Option G) → i < workers → slice_get gates.old i ≡ Some gate → CanTell G.Gate.own gate }
-    ensures written { IfOk result (λ wrote. Takes (O.taken out.old) (O.taken out.new) (O.faults out.old) (O.faults out.new) wrote (bytes_of_lanes net.now image.now lanes.now)) }
+    ensures written { IfOk result (λ wrote. Writes O.Sink.own out.old out.new wrote (bytes_of_lanes net.now image.now lanes.now)) }
     ensures visits { OnOk result (AreVisitsOf G.Gate.own (length image.now.ports) (image.now.units * longest lanes.now) workers gates.old gates.new) }
     ensures unwritten { OnErr result (out.new ≡ out.old) }
     ensures refused { OnErr result (gates.new ≡ gates.old) }

@@ -1,7 +1,7 @@
 //! The line and the status of a refusal.
 
 ghost use Rattle.std.specs.Prelude.{◌≡◌};
-ghost use Rattle.edge_io.specs.Writing.{Takes, TakesLine};
+ghost use Rattle.edge_io.specs.Writing.{TakesLine, Writes};
 ghost use Rattle.refusals.specs.Lines.{limit_line, read_fault_line, too_long_line, usage_line, write_fault_line};
 ghost use Rattle.refusals.specs.Refusals.{line_of, status_of};
 
@@ -63,7 +63,7 @@ fn status_of(refusal: &Refusal<'_>) -> Status
 }
 
 fn write_line<S: Sink>(sink: &mut S, refusal: &Refusal<'_>) -> Result<(), WriteNo>
-    ensures { Takes (S.taken sink.old) (S.taken sink.new) (S.faults sink.old) (S.faults sink.new)
+    ensures { Writes S.Sink.own sink.old sink.new
         result (line_of refusal.now) }
 {
     match refusal {
@@ -94,7 +94,7 @@ fn write_line<S: Sink>(sink: &mut S, refusal: &Refusal<'_>) -> Result<(), WriteN
 
 #[tactic(auto, unfolding(crate::specs::Lines::usage_line))]
 fn write_usage_line<S: Sink>(sink: &mut S) -> Result<(), WriteNo>
-    ensures { Takes (S.taken sink.old) (S.taken sink.new) (S.faults sink.old) (S.faults sink.new)
+    ensures { Writes S.Sink.own sink.old sink.new
         result usage_line }
 {
     write_pieces(
@@ -109,7 +109,7 @@ fn write_usage_line<S: Sink>(sink: &mut S) -> Result<(), WriteNo>
 
 #[tactic(auto, unfolding(crate::specs::Lines::read_fault_line))]
 fn write_read_fault_line<S: Sink>(sink: &mut S, file: &[u8]) -> Result<(), WriteNo>
-    ensures { Takes (S.taken sink.old) (S.taken sink.new) (S.faults sink.old) (S.faults sink.new)
+    ensures { Writes S.Sink.own sink.old sink.new
         result (read_fault_line file.now) }
 {
     write_pieces(sink, &[b"read fault: ", file, b"\n"])
@@ -117,7 +117,7 @@ fn write_read_fault_line<S: Sink>(sink: &mut S, file: &[u8]) -> Result<(), Write
 
 #[tactic(auto, unfolding(crate::specs::Lines::too_long_line))]
 fn write_too_long_line<S: Sink>(sink: &mut S, file: &[u8]) -> Result<(), WriteNo>
-    ensures { Takes (S.taken sink.old) (S.taken sink.new) (S.faults sink.old) (S.faults sink.new)
+    ensures { Writes S.Sink.own sink.old sink.new
         result (too_long_line file.now) }
 {
     let mut number = Buffer::new();
@@ -130,7 +130,7 @@ fn write_too_long_line<S: Sink>(sink: &mut S, file: &[u8]) -> Result<(), WriteNo
 
 #[tactic(auto, unfolding(crate::specs::Lines::limit_line))]
 fn write_limit_line<S: Sink>(sink: &mut S, what: &[u8], size: u64, most: u64) -> Result<(), WriteNo>
-    ensures { Takes (S.taken sink.old) (S.taken sink.new) (S.faults sink.old) (S.faults sink.new)
+    ensures { Writes S.Sink.own sink.old sink.new
         result (limit_line what.now size most) }
 {
     let (mut first, mut second) = (Buffer::new(), Buffer::new());
@@ -141,7 +141,7 @@ fn write_limit_line<S: Sink>(sink: &mut S, what: &[u8], size: u64, most: u64) ->
 
 #[tactic(auto, unfolding(crate::specs::Lines::write_fault_line))]
 fn write_write_fault_line<S: Sink>(sink: &mut S) -> Result<(), WriteNo>
-    ensures { Takes (S.taken sink.old) (S.taken sink.new) (S.faults sink.old) (S.faults sink.new)
+    ensures { Writes S.Sink.own sink.old sink.new
         result write_fault_line }
 {
     write_piece(sink, b"write fault\n")

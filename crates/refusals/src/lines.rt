@@ -2,7 +2,7 @@
 
 ghost use Rattle.std.specs.Prelude.{◌≡◌, ◌<◌, length, slice_get, IfSome};
 ghost use Rattle.std.specs.List.{flat_map};
-ghost use Rattle.edge_io.specs.Writing.{Takes};
+ghost use Rattle.edge_io.specs.Writing.{Writes};
 ghost use Rattle.refusals.specs.Lines.{line_fault, memory_line};
 
 pub mod image;
@@ -19,7 +19,7 @@ use itoa::Buffer;
 
 /// Writes pieces one after the other, up to the first fault.
 pub fn write_pieces<S: Sink>(sink: &mut S, pieces: &[&[u8]]) -> Result<(), WriteNo>
-    ensures { Takes (S.taken sink.old) (S.taken sink.new) (S.faults sink.old) (S.faults sink.new)
+    ensures { Writes S.Sink.own sink.old sink.new
         result (flat_map (λ piece. piece.now) pieces.now) }
 {
     'pieces: for i in 0..pieces.len() {
@@ -37,7 +37,7 @@ fn piece_at<'a>(pieces: &[&'a [u8]], i: usize) -> &'a [u8]
 
 #[tactic(auto, unfolding(crate::specs::Lines::memory_line))]
 pub fn write_memory_line<S: Sink>(sink: &mut S) -> Result<(), WriteNo>
-    ensures { Takes (S.taken sink.old) (S.taken sink.new) (S.faults sink.old) (S.faults sink.new)
+    ensures { Writes S.Sink.own sink.old sink.new
         result memory_line }
 {
     write_piece(sink, b"out of memory\n")
@@ -51,7 +51,7 @@ pub fn write_line_fault<S: Sink>(
     line: u32,
     fault: &[u8],
 ) -> Result<(), WriteNo>
-    ensures { Takes (S.taken sink.old) (S.taken sink.new) (S.faults sink.old) (S.faults sink.new)
+    ensures { Writes S.Sink.own sink.old sink.new
         result (line_fault text.now line fault.now) }
 {
     let mut number = Buffer::new();

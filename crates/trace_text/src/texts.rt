@@ -1,6 +1,6 @@
 //! Lines that were made before.
 
-ghost use Rattle.edge_io.specs.Writing.{Takes, joined};
+ghost use Rattle.edge_io.specs.Writing.{joined, Writes};
 
 use crate::piece::write_piece;
 use edge_io::{Sink, WriteNo};
@@ -8,7 +8,7 @@ use seen_list::Text;
 
 /// Writes the lines, each as one piece. It takes no memory.
 pub fn write_texts<O: Sink>(out: &mut O, lines: &[Text]) -> Result<(), WriteNo>
-    ensures { Takes (O.taken out.old) (O.taken out.new) (O.faults out.old) (O.faults out.new) result (joined lines.now) }
+    ensures { Writes O.Sink.own out.old out.new result (joined lines.now) }
 {
     'lines: for i in 0..lines.len() {
         if let Err(no) = write_piece(out, lines[i].as_bytes()) {

@@ -1,7 +1,7 @@
 //! A trace that is kept.
 
 ghost use Rattle.std.specs.Prelude.{◌≡◌, ◌≤◌, ℕ, Some, length, slice_get};
-ghost use Rattle.edge_io.specs.Writing.{Takes};
+ghost use Rattle.edge_io.specs.Writing.{Writes};
 ghost use Rattle.trace_text.specs.Lines.{FitsLine, cycle_lines, trace_text};
 ghost use Rattle.limits.specs.declared.TheConstants.{MAX_CYCLES};
 ghost use Rattle.net_defs.specs.declared.trace.CellRow.{CellRow};
@@ -22,7 +22,7 @@ pub fn write_trace<O: Sink>(
     rows: &[CellRow],
 ) -> Result<(), WriteNo>
     requires { FitsLine net.now rows.now line.old }
-    ensures written { Takes (O.taken out.old) (O.taken out.new) (O.faults out.old) (O.faults out.new) result (trace_text net.now rows.now) }
+    ensures written { Writes O.Sink.own out.old out.new result (trace_text net.now rows.now) }
     ensures room { line.new.room ≡ line.old.room }
 {
     line.header(net);
@@ -36,7 +36,7 @@ pub fn write_trace<O: Sink>(
 fn write_rows<O: Sink>(out: &mut O, line: &mut TraceLine, rows: &[CellRow]) -> Result<(), WriteNo>
     requires room { (c : ℕ) (row : CellRow) → slice_get rows.now c ≡ Some row → row_room (length row.cells) ≤ line.old.room }
     requires cycles { length rows.now ≤ MAX_CYCLES }
-    ensures written { Takes (O.taken out.old) (O.taken out.new) (O.faults out.old) (O.faults out.new) result (cycle_lines rows.now) }
+    ensures written { Writes O.Sink.own out.old out.new result (cycle_lines rows.now) }
     ensures room { line.new.room ≡ line.old.room }
 {
     'rows: for (i, row) in rows.iter().enumerate() {

@@ -1,6 +1,7 @@
 -- The outcome of an output or a refusal, and what a call that comes to one says of its chain of checks.
 use Rattle.std.specs.Prelude.{◌≡◌, ℕ, List, Bool, Option, Result, Ok, Err}
 use Rattle.edge_io.specs.declared.counts.FileCounts.{FileCounts}
+use Rattle.edge_io.specs.declared.files.Files as files
 use Rattle.edge_io.specs.declared.writing.WriteNo.{WriteNo}
 use Rattle.yse_commands.specs.declared.output.Output.{Output}
 use Rattle.yse_commands.specs.declared.output.Output.TheVariants as output
@@ -42,3 +43,7 @@ module _ (names : Option (List ℕ → Bool)) (bytes : Option (List ℕ → List
     pub readings : List Reading
     pub are : AreReadings names bytes old new readings
     pub expected : Chain readings outcome
+
+-- a call of files comes to an outcome that a chain of checks expects of those that it began
+abbrev pub FilesFollow : {F : Type 0} → files.Ghosts F → F → F → Outcome → (List Reading → Outcome → Type 0) → Type 0
+FilesFollow tells old new = Follows (tells.names old) (tells.bytes old) (tells.counts old) (tells.counts new)

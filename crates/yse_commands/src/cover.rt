@@ -6,7 +6,7 @@ ghost use Rattle.net_defs.specs.Loops.{AreRanks};
 ghost use Rattle.net_defs.specs.Valid.{IsValid, IsValidStimulus, IsValidTiming};
 ghost use Rattle.cmd_words.specs.Forms.{IsRunInRange};
 ghost use Rattle.yse_commands.specs.Outputs.{CanWrite};
-ghost use Rattle.yse_commands.specs.Refusals.{Follows, outcome_of};
+ghost use Rattle.yse_commands.specs.Refusals.{FilesFollow, outcome_of};
 ghost use Rattle.yse_commands.specs.commands.Cover.{ExpectedCover, IsCoverage, WritesCoverage};
 ghost use Rattle.call_steps.specs.Files.{AfterStimulus};
 
@@ -29,8 +29,7 @@ pub fn cover<'a, F: Files>(
     requires { IsRunInRange words.now }
     ensures same_names { F.names files.new ≡ F.names files.old }
     ensures same_bytes { F.bytes files.new ≡ F.bytes files.old }
-    ensures expected { Follows (F.names files.old) (F.bytes files.old) (F.counts files.old) (F.counts files.new)
-        (outcome_of None result) (ExpectedCover words.now) }
+    ensures expected { FilesFollow F.Files.own files.old files.new (outcome_of None result) (ExpectedCover words.now) }
     ensures writable { IfOk result CanWrite }
 {
     let Timed { net, timing } = design_from(alloc, files, words)?;
@@ -51,8 +50,7 @@ fn coverage_of<'a, F: Files>(
     requires ranks { AreRanks design.now.net timing.now design.now.ranks }
     ensures same_names { F.names files.new ≡ F.names files.old }
     ensures same_bytes { F.bytes files.new ≡ F.bytes files.old }
-    ensures expected { Follows (F.names files.old) (F.bytes files.old) (F.counts files.old) (F.counts files.new)
-        (outcome_of None result) (AfterStimulus words.now.stimulus design.now.net (WritesCoverage design.now.net timing.now)) }
+    ensures expected { FilesFollow F.Files.own files.old files.new (outcome_of None result) (AfterStimulus words.now.stimulus design.now.net (WritesCoverage design.now.net timing.now)) }
     ensures writable { IfOk result CanWrite }
 {
     let stimulus = stimulus_in(alloc, files, words.stimulus.as_bytes(), &design.net)?;

@@ -6,7 +6,7 @@ ghost use Rattle.net_defs.specs.Loops.{AreRanks};
 ghost use Rattle.net_defs.specs.Valid.{IsFault, IsValid, IsValidStimulus, IsValidTiming};
 ghost use Rattle.cmd_words.specs.Forms.{IsRunInRange};
 ghost use Rattle.yse_commands.specs.Outputs.{CanWrite};
-ghost use Rattle.yse_commands.specs.Refusals.{Follows, outcome_of};
+ghost use Rattle.yse_commands.specs.Refusals.{FilesFollow, outcome_of};
 ghost use Rattle.call_steps.specs.Checks.{After, HasFewSignals};
 ghost use Rattle.yse_commands.specs.commands.Fault.{AfterListed, ExpectedFault, IsFaultList, listed_or_all};
 ghost use Rattle.call_steps.specs.Files.{AfterFaultList};
@@ -33,8 +33,7 @@ pub fn fault<'a, R: Threads + Sync, F: Files>(
     requires range { IsRunInRange words.now }
     ensures same_names { F.names files.new ≡ F.names files.old }
     ensures same_bytes { F.bytes files.new ≡ F.bytes files.old }
-    ensures expected { Follows (F.names files.old) (F.bytes files.old) (F.counts files.old) (F.counts files.new)
-        (outcome_of None result) (ExpectedFault words.now) }
+    ensures expected { FilesFollow F.Files.own files.old files.new (outcome_of None result) (ExpectedFault words.now) }
     ensures writable { IfOk result CanWrite }
 {
     let Timed { net, timing } = design_from(alloc, files, words)?;
@@ -57,8 +56,7 @@ fn faults_of<'a, R: Threads + Sync, F: Files>(
     requires ranks { AreRanks design.now.net timing.now design.now.ranks }
     ensures same_names { F.names files.new ≡ F.names files.old }
     ensures same_bytes { F.bytes files.new ≡ F.bytes files.old }
-    ensures expected { Follows (F.names files.old) (F.bytes files.old) (F.counts files.old) (F.counts files.new)
-        (outcome_of None result) (After (HasFewSignals design.now.net) (λ few.
+    ensures expected { FilesFollow F.Files.own files.old files.new (outcome_of None result) (After (HasFewSignals design.now.net) (λ few.
         AfterFaultList words.now.faults design.now.net (AfterListed words.now.stimulus design.now.net timing.now))) }
     ensures writable { IfOk result CanWrite }
 {
@@ -84,8 +82,7 @@ fn listed_of<'a, R: Threads + Sync, F: Files>(
     requires listed { IfSome listed (All (IsFault design.now.net)) }
     ensures same_names { F.names files.new ≡ F.names files.old }
     ensures same_bytes { F.bytes files.new ≡ F.bytes files.old }
-    ensures expected { Follows (F.names files.old) (F.bytes files.old) (F.counts files.old) (F.counts files.new)
-        (outcome_of None result) (AfterListed words.now.stimulus design.now.net timing.now listed) }
+    ensures expected { FilesFollow F.Files.own files.old files.new (outcome_of None result) (AfterListed words.now.stimulus design.now.net timing.now listed) }
     ensures writable { IfOk result CanWrite }
 {
     let stimulus = stimulus_in(alloc, files, words.stimulus.as_bytes(), &design.net)?;

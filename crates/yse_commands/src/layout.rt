@@ -3,7 +3,7 @@
 ghost use Rattle.std.specs.Prelude.{◌≡◌, IfOk, None};
 ghost use Rattle.cmd_words.specs.Forms.{IsRunInRange};
 ghost use Rattle.yse_commands.specs.Outputs.{CanWrite};
-ghost use Rattle.yse_commands.specs.Refusals.{Follows, outcome_of};
+ghost use Rattle.yse_commands.specs.Refusals.{FilesFollow, outcome_of};
 ghost use Rattle.yse_commands.specs.commands.Layout.{ExpectedLayout, IsSheetOf};
 
 use crate::compile::image_text_of;
@@ -35,8 +35,7 @@ pub fn lay_out<'a, F: Files>(
     requires { IsRunInRange words.now }
     ensures same_names { F.names files.new ≡ F.names files.old }
     ensures same_bytes { F.bytes files.new ≡ F.bytes files.old }
-    ensures expected { Follows (F.names files.old) (F.bytes files.old) (F.counts files.old) (F.counts files.new)
-        (outcome_of None result) (ExpectedLayout sheet words.now) }
+    ensures expected { FilesFollow F.Files.own files.old files.new (outcome_of None result) (ExpectedLayout sheet words.now) }
     ensures writable { IfOk result CanWrite }
 {
     let planned = planned_on_machine(alloc, files, words)?;

@@ -3,7 +3,7 @@
 ghost use Rattle.std.specs.Prelude.{◌≡◌, IfOk, None};
 ghost use Rattle.cmd_words.specs.Forms.{IsRunInRange};
 ghost use Rattle.yse_commands.specs.Outputs.{CanWrite};
-ghost use Rattle.yse_commands.specs.Refusals.{Follows, outcome_of};
+ghost use Rattle.yse_commands.specs.Refusals.{FilesFollow, outcome_of};
 ghost use Rattle.yse_commands.specs.commands.Run.{EndsAfter, ExpectedOrder};
 ghost use Rattle.call_steps.specs.Passing.{AfterOrderFile};
 
@@ -27,8 +27,7 @@ pub fn order<'a, F: Files>(
     requires { IsRunInRange words.now }
     ensures same_names { F.names files.new ≡ F.names files.old }
     ensures same_bytes { F.bytes files.new ≡ F.bytes files.old }
-    ensures expected { Follows (F.names files.old) (F.bytes files.old) (F.counts files.old) (F.counts files.new)
-        (outcome_of None result) (ExpectedOrder words.now) }
+    ensures expected { FilesFollow F.Files.own files.old files.new (outcome_of None result) (ExpectedOrder words.now) }
     ensures writable { IfOk result CanWrite }
 {
     let ready = ready_on_machine(alloc, files, words)?;
@@ -54,8 +53,7 @@ fn in_order<'a, F: Files>(
     requires homes { ready.placed.homes ≡ words.now.homes }
     ensures same_names { F.names files.new ≡ F.names files.old }
     ensures same_bytes { F.bytes files.new ≡ F.bytes files.old }
-    ensures expected { Follows (F.names files.old) (F.bytes files.old) (F.counts files.old) (F.counts files.new)
-        (outcome_of None result) (AfterOrderFile file.now ready.placed.machine (EndsAfter words.now ready.placed ready.stimulus)) }
+    ensures expected { FilesFollow F.Files.own files.old files.new (outcome_of None result) (AfterOrderFile file.now ready.placed.machine (EndsAfter words.now ready.placed ready.stimulus)) }
     ensures writable { IfOk result CanWrite }
 {
     let order = order_for(alloc, files, file, &ready)?;

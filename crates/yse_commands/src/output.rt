@@ -2,7 +2,7 @@
 
 ghost use Rattle.std.specs.Prelude.{IsErr, OnErr};
 ghost use Rattle.yse_commands.specs.Outputs.{bytes_of, trace_bytes, CanEnd, CanPrint, HasTaken, wrote_in};
-ghost use Rattle.edge_io.specs.Writing.{Takes};
+ghost use Rattle.edge_io.specs.Writing.{Writes};
 
 use edge_io::{Sink, WriteNo};
 use image_defs::Image;
@@ -66,7 +66,7 @@ pub struct Ending {
 pub fn write_output<O: Sink>(out: &mut O, output: &mut Output) -> Result<(), WriteNo>
     requires { CanEnd output.old }
     ensures written { (before : O) → HasTaken O.taken O.faults before out.old output.old
-        → Takes (O.taken before) (O.taken out.new) (O.faults before) (O.faults out.new) result (bytes_of output.old) }
+        → Writes O.Sink.own before out.new result (bytes_of output.old) }
     ensures failed { OnErr (wrote_in output.old) (IsErr result) }
 {
     match output {
@@ -81,7 +81,7 @@ pub fn write_output<O: Sink>(out: &mut O, output: &mut Output) -> Result<(), Wri
 
 fn write_rows<O: Sink>(out: &mut O, trace: &mut Trace) -> Result<(), WriteNo>
     requires { CanPrint trace.old }
-    ensures { Takes (O.taken out.old) (O.taken out.new) (O.faults out.old) (O.faults out.new) result
+    ensures { Writes O.Sink.own out.old out.new result
         (trace_bytes trace.old) }
 {
     write_trace(out, &trace.net, &mut trace.line, trace.rows.rows.as_slice())

@@ -3,7 +3,7 @@
 ghost use Rattle.std.specs.Prelude.{◌≡◌, ◌≤◌, IfOk, OnErr, Some, length};
 ghost use Rattle.net_defs.specs.Valid.{input_count};
 ghost use Rattle.cmd_words.specs.Forms.{IsRunInRange};
-ghost use Rattle.edge_io.specs.Writing.{Takes};
+ghost use Rattle.edge_io.specs.Writing.{Writes};
 ghost use Rattle.limits.specs.declared.TheConstants.{MAX_WORKERS};
 ghost use Rattle.machine_run.specs.Visits.{AreInPlace};
 ghost use Rattle.stim_text.specs.Lanes.{AreLanes};
@@ -74,7 +74,7 @@ fn lane_traces<R: Threads + Wait + Sync, O: Sink, G: Gate + Send>(
     requires gates { MAX_WORKERS ≤ length gates.old }
     requires tell { AllCanTell G.Gate.own gates.old }
     ensures printed { IfOk result (λ run. AreLaneTraces design.net design.timing lanes (lanes_bytes run)) }
-    ensures written { IfOk result (λ run. Takes (O.taken out.old) (O.taken out.new) (O.faults out.old) (O.faults out.new) run.wrote (lanes_bytes run)) }
+    ensures written { IfOk result (λ run. Writes O.Sink.own out.old out.new run.wrote (lanes_bytes run)) }
     ensures visits { IfOk result (λ run. TellsTurns G.Gate.own gates.old gates.new run.wrote (Some (lanes_turns words.now design lanes))) }
     ensures unwritten { OnErr result (out.new ≡ out.old) }
     ensures refused { OnErr result (gates.new ≡ gates.old) }

@@ -6,7 +6,7 @@ ghost use Rattle.net_defs.specs.Valid.{IsValid, IsValidStimulus, IsValidTiming};
 ghost use Rattle.cmd_words.specs.Forms.{IsRunInRange};
 ghost use Rattle.yse_commands.specs.Outputs.{CanWrite, CanPrint};
 ghost use Rattle.yse_commands.specs.code.Printed.{ArePrinted};
-ghost use Rattle.yse_commands.specs.Refusals.{Follows, outcome_of};
+ghost use Rattle.yse_commands.specs.Refusals.{FilesFollow, outcome_of};
 ghost use Rattle.yse_commands.specs.commands.Run.{ExpectedRefer, KeepsTrace};
 
 use crate::output::{Output, Trace};
@@ -29,8 +29,7 @@ pub fn refer<'a, F: Files>(
     requires { IsRunInRange words.now }
     ensures same_names { F.names files.new ≡ F.names files.old }
     ensures same_bytes { F.bytes files.new ≡ F.bytes files.old }
-    ensures expected { Follows (F.names files.old) (F.bytes files.old) (F.counts files.old) (F.counts files.new)
-        (outcome_of None result) (ExpectedRefer words.now) }
+    ensures expected { FilesFollow F.Files.own files.old files.new (outcome_of None result) (ExpectedRefer words.now) }
     ensures writable { IfOk result CanWrite }
 {
     let Timed { net, timing } = design_from(alloc, files, words)?;

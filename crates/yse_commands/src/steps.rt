@@ -2,7 +2,7 @@
 
 ghost use Rattle.machine_text.specs.Machines.{ports_of};
 ghost use Rattle.std.specs.Prelude.{◌≡◌, ◌≤◌, IfOk, None, OnErr, Some, length};
-ghost use Rattle.edge_io.specs.Writing.{Takes};
+ghost use Rattle.edge_io.specs.Writing.{Writes};
 ghost use Rattle.machine_run.specs.Visits.{AreInPlace};
 ghost use Rattle.net_defs.specs.Trace.{IsTrace};
 ghost use Rattle.stim_text.specs.Orders.{IsValidOrder};
@@ -45,7 +45,7 @@ pub fn on_workers<R: Threads + Wait + Sync, O: Sink, G: Gate + Send>(
     requires gates { MAX_WORKERS ≤ length gates.old }
     requires tell { AllCanTell G.Gate.own gates.old }
     ensures printed { IfOk result (λ run. IsTrace ready.placed.net ready.placed.timing ready.stimulus (run_bytes run)) }
-    ensures written { IfOk result (λ run. Takes (O.taken out.old) (O.taken out.new) (O.faults out.old) (O.faults out.new) run.wrote (run_bytes run)) }
+    ensures written { IfOk result (λ run. Writes O.Sink.own out.old out.new run.wrote (run_bytes run)) }
     ensures visits { IfOk result (λ run. TellsTurns G.Gate.own gates.old gates.new run.wrote (Some (run_turns (ports_of ready.placed.machine) words.now ready.placed.timing ready.placed.net ready.stimulus))) }
     ensures unwritten { OnErr result (out.new ≡ out.old) }
     ensures refused { OnErr result (gates.new ≡ gates.old) }
@@ -73,7 +73,7 @@ pub fn by_workers<R: Threads + Wait + Sync, O: Sink, G: Gate + Send>(
     requires gates { MAX_WORKERS ≤ length gates.old }
     requires tell { AllCanTell G.Gate.own gates.old }
     ensures printed { IfOk result (λ written. IsTrace run.net run.timing stimulus (run_bytes written)) }
-    ensures written { IfOk result (λ written. Takes (O.taken out.old) (O.taken out.new) (O.faults out.old) (O.faults out.new) written.wrote (run_bytes written)) }
+    ensures written { IfOk result (λ written. Writes O.Sink.own out.old out.new written.wrote (run_bytes written)) }
     ensures visits { IfOk result (λ written. TellsTurns G.Gate.own gates.old gates.new written.wrote (Some (run_turns (length run.image.ports) words.now run.timing run.net stimulus))) }
     ensures unwritten { OnErr result (out.new ≡ out.old) }
     ensures refused { OnErr result (gates.new ≡ gates.old) }

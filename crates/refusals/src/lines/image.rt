@@ -1,7 +1,7 @@
 //! The lines of image texts that are refused, and of images that do not match a netlist.
 
 ghost use Rattle.std.specs.Prelude.{◌<◌};
-ghost use Rattle.edge_io.specs.Writing.{Takes};
+ghost use Rattle.edge_io.specs.Writing.{Writes};
 ghost use Rattle.refusals.specs.Lines.{column_line, form_line, image_line, match_line, place_line, timing_line};
 
 use crate::lines::{write_line_fault, write_memory_line, write_pieces};
@@ -13,7 +13,7 @@ use itoa::Buffer;
 
 /// Writes the line of an image text that is refused.
 pub fn write_image_line<S: Sink>(sink: &mut S, no: &ImageNo) -> Result<(), WriteNo>
-    ensures { Takes (S.taken sink.old) (S.taken sink.new) (S.faults sink.old) (S.faults sink.new)
+    ensures { Writes S.Sink.own sink.old sink.new
         result (image_line no.now) }
 {
     match no {
@@ -25,7 +25,7 @@ pub fn write_image_line<S: Sink>(sink: &mut S, no: &ImageNo) -> Result<(), Write
 
 /// Writes the line of an image that does not match the netlist.
 pub fn write_match_line<S: Sink>(sink: &mut S, no: &CheckNo) -> Result<(), WriteNo>
-    ensures { Takes (S.taken sink.old) (S.taken sink.new) (S.faults sink.old) (S.faults sink.new)
+    ensures { Writes S.Sink.own sink.old sink.new
         result (match_line no.now) }
 {
     match no {
@@ -39,7 +39,7 @@ pub fn write_match_line<S: Sink>(sink: &mut S, no: &CheckNo) -> Result<(), Write
 
 #[tactic(auto, unfolding(crate::specs::Lines::form_line))]
 fn write_form_line<S: Sink>(sink: &mut S) -> Result<(), WriteNo>
-    ensures { Takes (S.taken sink.old) (S.taken sink.new) (S.faults sink.old) (S.faults sink.new)
+    ensures { Writes S.Sink.own sink.old sink.new
         result form_line }
 {
     write_piece(sink, b"image: not well formed\n")
@@ -47,7 +47,7 @@ fn write_form_line<S: Sink>(sink: &mut S) -> Result<(), WriteNo>
 
 #[tactic(auto, unfolding(crate::specs::Lines::timing_line))]
 fn write_timing_line<S: Sink>(sink: &mut S) -> Result<(), WriteNo>
-    ensures { Takes (S.taken sink.old) (S.taken sink.new) (S.faults sink.old) (S.faults sink.new)
+    ensures { Writes S.Sink.own sink.old sink.new
         result timing_line }
 {
     write_piece(sink, b"image: timing differs\n")
@@ -55,7 +55,7 @@ fn write_timing_line<S: Sink>(sink: &mut S) -> Result<(), WriteNo>
 
 #[tactic(auto, unfolding(crate::specs::Lines::place_line))]
 fn write_place_line<S: Sink>(sink: &mut S, port: u32, slot: u32) -> Result<(), WriteNo>
-    ensures { Takes (S.taken sink.old) (S.taken sink.new) (S.faults sink.old) (S.faults sink.new)
+    ensures { Writes S.Sink.own sink.old sink.new
         result (place_line port slot) }
 {
     let (mut first, mut second) = (Buffer::new(), Buffer::new());
@@ -69,7 +69,7 @@ fn write_place_line<S: Sink>(sink: &mut S, port: u32, slot: u32) -> Result<(), W
 
 #[tactic(auto, unfolding(crate::specs::Lines::column_line))]
 fn write_column_line<S: Sink>(sink: &mut S, column: usize) -> Result<(), WriteNo>
-    ensures { Takes (S.taken sink.old) (S.taken sink.new) (S.faults sink.old) (S.faults sink.new)
+    ensures { Writes S.Sink.own sink.old sink.new
         result (column_line column) }
 {
     let mut number = Buffer::new();

@@ -1,7 +1,7 @@
 //! The lines of texts of lists of gates, and of stuck faults, that are refused.
 
 ghost use Rattle.std.specs.Prelude.{◌<◌};
-ghost use Rattle.edge_io.specs.Writing.{Takes};
+ghost use Rattle.edge_io.specs.Writing.{Writes};
 ghost use Rattle.refusals.specs.Lines.{faults_line, list_line};
 
 use crate::lines::{write_line_fault, write_memory_line};
@@ -10,7 +10,7 @@ use edge_io::{Sink, WriteNo};
 
 /// Writes the line of the text of a list that is refused.
 pub fn write_list_line<S: Sink>(sink: &mut S, no: &LastNo) -> Result<(), WriteNo>
-    ensures { Takes (S.taken sink.old) (S.taken sink.new) (S.faults sink.old) (S.faults sink.new)
+    ensures { Writes S.Sink.own sink.old sink.new
         result (list_line no.now) }
 {
     match no {
@@ -23,7 +23,7 @@ pub fn write_list_line<S: Sink>(sink: &mut S, no: &LastNo) -> Result<(), WriteNo
 
 /// Writes the line of the text of a list of stuck faults that is refused.
 pub fn write_faults_line<S: Sink>(sink: &mut S, no: &FaultNo) -> Result<(), WriteNo>
-    ensures { Takes (S.taken sink.old) (S.taken sink.new) (S.faults sink.old) (S.faults sink.new)
+    ensures { Writes S.Sink.own sink.old sink.new
         result (faults_line no.now) }
 {
     match no {

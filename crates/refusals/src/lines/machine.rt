@@ -1,7 +1,7 @@
 //! The lines of machine texts that are refused.
 
 ghost use Rattle.std.specs.Prelude.{◌<◌};
-ghost use Rattle.edge_io.specs.Writing.{Takes};
+ghost use Rattle.edge_io.specs.Writing.{Writes};
 ghost use Rattle.refusals.specs.Lines.{machine_line, ports_line};
 
 use crate::lines::{write_line_fault, write_memory_line, write_pieces};
@@ -12,7 +12,7 @@ use machine_text::MachNo;
 
 /// Writes the line of a machine text that is refused.
 pub fn write_machine_line<S: Sink>(sink: &mut S, no: &MachNo) -> Result<(), WriteNo>
-    ensures { Takes (S.taken sink.old) (S.taken sink.new) (S.faults sink.old) (S.faults sink.new)
+    ensures { Writes S.Sink.own sink.old sink.new
         result (machine_line no.now) }
 {
     match no {
@@ -27,7 +27,7 @@ pub fn write_machine_line<S: Sink>(sink: &mut S, no: &MachNo) -> Result<(), Writ
 
 #[tactic(auto, unfolding(crate::specs::Lines::ports_line))]
 fn write_ports_line<S: Sink>(sink: &mut S, ports: u32) -> Result<(), WriteNo>
-    ensures { Takes (S.taken sink.old) (S.taken sink.new) (S.faults sink.old) (S.faults sink.new)
+    ensures { Writes S.Sink.own sink.old sink.new
         result (ports_line ports) }
 {
     let (mut first, mut second) = (Buffer::new(), Buffer::new());

@@ -2,7 +2,7 @@
 
 ghost use Rattle.std.specs.Prelude.{◌≡◌, ◌++◌, codes};
 ghost use Rattle.std.specs.List.{flat_map};
-ghost use Rattle.edge_io.specs.Writing.{Takes};
+ghost use Rattle.edge_io.specs.Writing.{Writes};
 ghost use Rattle.net_defs.specs.Canonical.{name_of};
 ghost use Rattle.refusals.specs.Lines.{byte_line, loop_line, many_words, netlist_line, text_line, twice_line, undriven_line};
 
@@ -16,7 +16,7 @@ use net_defs::{Netlist, name_of};
 
 /// Writes the line of a netlist that is refused.
 pub fn write_netlist_line<S: Sink>(sink: &mut S, no: &BenchNo) -> Result<(), WriteNo>
-    ensures { Takes (S.taken sink.old) (S.taken sink.new) (S.faults sink.old) (S.faults sink.new)
+    ensures { Writes S.Sink.own sink.old sink.new
         result (netlist_line no.now) }
 {
     match no {
@@ -44,7 +44,7 @@ pub fn write_netlist_line<S: Sink>(sink: &mut S, no: &BenchNo) -> Result<(), Wri
 }
 
 fn write_text_line<S: Sink>(sink: &mut S, no: &TextNo) -> Result<(), WriteNo>
-    ensures { Takes (S.taken sink.old) (S.taken sink.new) (S.faults sink.old) (S.faults sink.new)
+    ensures { Writes S.Sink.own sink.old sink.new
         result (text_line no.now) }
 {
     match no {
@@ -65,7 +65,7 @@ fn many_words(what: Many) -> &'static [u8]
 
 #[tactic(auto, unfolding(crate::specs::Lines::byte_line))]
 fn write_byte_line<S: Sink>(sink: &mut S, line: u32, column: u32) -> Result<(), WriteNo>
-    ensures { Takes (S.taken sink.old) (S.taken sink.new) (S.faults sink.old) (S.faults sink.new)
+    ensures { Writes S.Sink.own sink.old sink.new
         result (byte_line line column) }
 {
     let (mut first, mut second) = (Buffer::new(), Buffer::new());
@@ -90,7 +90,7 @@ fn write_twice_line<S: Sink>(
     name: &[u8],
     first_line: u32,
 ) -> Result<(), WriteNo>
-    ensures { Takes (S.taken sink.old) (S.taken sink.new) (S.faults sink.old) (S.faults sink.new)
+    ensures { Writes S.Sink.own sink.old sink.new
         result (twice_line line name.now first_line) }
 {
     let (mut first, mut second) = (Buffer::new(), Buffer::new());
@@ -112,7 +112,7 @@ fn write_twice_line<S: Sink>(
 
 #[tactic(auto, unfolding(crate::specs::Lines::undriven_line))]
 fn write_undriven_line<S: Sink>(sink: &mut S, line: u32, name: &[u8]) -> Result<(), WriteNo>
-    ensures { Takes (S.taken sink.old) (S.taken sink.new) (S.faults sink.old) (S.faults sink.new)
+    ensures { Writes S.Sink.own sink.old sink.new
         result (undriven_line line name.now) }
 {
     let mut number = Buffer::new();
@@ -125,7 +125,7 @@ fn write_undriven_line<S: Sink>(sink: &mut S, line: u32, name: &[u8]) -> Result<
 
 #[tactic(auto, unfolding(crate::specs::Lines::loop_line))]
 pub fn write_loop_line<S: Sink>(sink: &mut S, net: &Netlist, members: &[u32]) -> Result<(), WriteNo>
-    ensures { Takes (S.taken sink.old) (S.taken sink.new) (S.faults sink.old) (S.faults sink.new)
+    ensures { Writes S.Sink.own sink.old sink.new
         result (loop_line net.now members.now) }
 {
     write_members(sink, net, members)?;
@@ -133,7 +133,7 @@ pub fn write_loop_line<S: Sink>(sink: &mut S, net: &Netlist, members: &[u32]) ->
 }
 
 fn write_members<S: Sink>(sink: &mut S, net: &Netlist, members: &[u32]) -> Result<(), WriteNo>
-    ensures { Takes (S.taken sink.old) (S.taken sink.new) (S.faults sink.old) (S.faults sink.new) result
+    ensures { Writes S.Sink.own sink.old sink.new result
         (codes "loop:" ++ flat_map (λ s. codes " " ++ name_of net.now s) members.now) }
 {
     write_piece(sink, b"loop:")?;
@@ -142,7 +142,7 @@ fn write_members<S: Sink>(sink: &mut S, net: &Netlist, members: &[u32]) -> Resul
 
 /// Writes the names, a space before each.
 fn write_names<S: Sink>(sink: &mut S, net: &Netlist, members: &[u32]) -> Result<(), WriteNo>
-    ensures { Takes (S.taken sink.old) (S.taken sink.new) (S.faults sink.old) (S.faults sink.new) result
+    ensures { Writes S.Sink.own sink.old sink.new result
         (flat_map (λ s. codes " " ++ name_of net.now s) members.now) }
 {
     'members: for member in members {

@@ -1,7 +1,7 @@
 //! The lines of order texts that are refused, and of orders that end before every port is done.
 
 ghost use Rattle.std.specs.Prelude.{◌<◌};
-ghost use Rattle.edge_io.specs.Writing.{Takes};
+ghost use Rattle.edge_io.specs.Writing.{Writes};
 ghost use Rattle.refusals.specs.Lines.{order_line, unfinished_line};
 
 use crate::lines::{write_line_fault, write_memory_line, write_pieces};
@@ -11,7 +11,7 @@ use stim_text::OrderNo;
 
 /// Writes the line of an order text that is refused.
 pub fn write_order_line<S: Sink>(sink: &mut S, no: &OrderNo) -> Result<(), WriteNo>
-    ensures { Takes (S.taken sink.old) (S.taken sink.new) (S.faults sink.old) (S.faults sink.new)
+    ensures { Writes S.Sink.own sink.old sink.new
         result (order_line no.now) }
 {
     match no {
@@ -25,7 +25,7 @@ pub fn write_order_line<S: Sink>(sink: &mut S, no: &OrderNo) -> Result<(), Write
 /// Writes the line of an order that ended with so many of the rows done.
 #[tactic(auto, unfolding(crate::specs::Lines::unfinished_line))]
 pub fn write_unfinished_line<S: Sink>(sink: &mut S, rows: u32, cycles: u32) -> Result<(), WriteNo>
-    ensures { Takes (S.taken sink.old) (S.taken sink.new) (S.faults sink.old) (S.faults sink.new)
+    ensures { Writes S.Sink.own sink.old sink.new
         result (unfinished_line rows cycles) }
 {
     let (mut first, mut second) = (Buffer::new(), Buffer::new());

@@ -1,7 +1,7 @@
 //! The lines of designs that do not fit a machine.
 
 ghost use Rattle.std.specs.Prelude.{◌≡◌};
-ghost use Rattle.edge_io.specs.Writing.{Takes};
+ghost use Rattle.edge_io.specs.Writing.{Writes};
 ghost use Rattle.refusals.specs.Lines.{bits_line, functions_line, memory_name as name_of_memory, needed_line, overfull_line};
 
 use crate::lines::netlist::write_loop_line;
@@ -13,7 +13,7 @@ use yse_compile::CompNo;
 
 /// Writes the line of a design that does not fit.
 pub fn write_overfull_line<S: Sink>(sink: &mut S, net: &Netlist, no: &CompNo) -> Result<(), WriteNo>
-    ensures { Takes (S.taken sink.old) (S.taken sink.new) (S.faults sink.old) (S.faults sink.new)
+    ensures { Writes S.Sink.own sink.old sink.new
         result (overfull_line net.now no.now) }
 {
     match no {
@@ -57,7 +57,7 @@ fn write_bits_line<S: Sink>(
     needed: u32,
     left: u32,
 ) -> Result<(), WriteNo>
-    ensures { Takes (S.taken sink.old) (S.taken sink.new) (S.faults sink.old) (S.faults sink.new)
+    ensures { Writes S.Sink.own sink.old sink.new
         result (bits_line name.now needed left) }
 {
     let (mut first, mut second) = (Buffer::new(), Buffer::new());
@@ -84,7 +84,7 @@ fn write_needed_line<S: Sink>(
     needed: u32,
     limit: u32,
 ) -> Result<(), WriteNo>
-    ensures { Takes (S.taken sink.old) (S.taken sink.new) (S.faults sink.old) (S.faults sink.new)
+    ensures { Writes S.Sink.own sink.old sink.new
         result (needed_line what.now needed limit) }
 {
     let (mut first, mut second) = (Buffer::new(), Buffer::new());
@@ -111,7 +111,7 @@ fn write_functions_line<S: Sink>(
     needed: u32,
     limit: u32,
 ) -> Result<(), WriteNo>
-    ensures { Takes (S.taken sink.old) (S.taken sink.new) (S.faults sink.old) (S.faults sink.new)
+    ensures { Writes S.Sink.own sink.old sink.new
         result (functions_line port needed limit) }
 {
     let (mut first, mut second, mut third) = (Buffer::new(), Buffer::new(), Buffer::new());

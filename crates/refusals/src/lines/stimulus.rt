@@ -1,7 +1,7 @@
 //! The lines of stimulus texts and of texts of lanes that are refused.
 
 ghost use Rattle.std.specs.Prelude.{◌<◌};
-ghost use Rattle.edge_io.specs.Writing.{Takes};
+ghost use Rattle.edge_io.specs.Writing.{Writes};
 ghost use Rattle.refusals.specs.Lines.{cycles_line, lanes_line, many_lanes_line, stimulus_line, width_line};
 
 use crate::lines::{write_line_fault, write_memory_line, write_pieces};
@@ -13,7 +13,7 @@ use stim_text::{LaneNo, StimNo};
 
 /// Writes the line of a stimulus that is refused.
 pub fn write_stimulus_line<S: Sink>(sink: &mut S, no: &StimNo) -> Result<(), WriteNo>
-    ensures { Takes (S.taken sink.old) (S.taken sink.new) (S.faults sink.old) (S.faults sink.new)
+    ensures { Writes S.Sink.own sink.old sink.new
         result (stimulus_line no.now) }
 {
     match no {
@@ -27,7 +27,7 @@ pub fn write_stimulus_line<S: Sink>(sink: &mut S, no: &StimNo) -> Result<(), Wri
 
 #[tactic(auto, unfolding(crate::specs::Lines::width_line))]
 fn write_width_line<S: Sink>(sink: &mut S, line: u32, got: u32, want: u32) -> Result<(), WriteNo>
-    ensures { Takes (S.taken sink.old) (S.taken sink.new) (S.faults sink.old) (S.faults sink.new)
+    ensures { Writes S.Sink.own sink.old sink.new
         result (width_line line got want) }
 {
     let (mut first, mut second, mut third) = (Buffer::new(), Buffer::new(), Buffer::new());
@@ -50,7 +50,7 @@ fn write_width_line<S: Sink>(sink: &mut S, line: u32, got: u32, want: u32) -> Re
 
 #[tactic(auto, unfolding(crate::specs::Lines::cycles_line))]
 fn write_cycles_line<S: Sink>(sink: &mut S) -> Result<(), WriteNo>
-    ensures { Takes (S.taken sink.old) (S.taken sink.new) (S.faults sink.old) (S.faults sink.new)
+    ensures { Writes S.Sink.own sink.old sink.new
         result cycles_line }
 {
     write_piece(sink, b"stimulus: too many cycles\n")
@@ -58,7 +58,7 @@ fn write_cycles_line<S: Sink>(sink: &mut S) -> Result<(), WriteNo>
 
 /// Writes the line of a fault of a text of lanes.
 pub fn write_lanes_line<S: Sink>(sink: &mut S, no: &LaneNo) -> Result<(), WriteNo>
-    ensures { Takes (S.taken sink.old) (S.taken sink.new) (S.faults sink.old) (S.faults sink.new)
+    ensures { Writes S.Sink.own sink.old sink.new
         result (lanes_line no.now) }
 {
     match no {
@@ -71,7 +71,7 @@ pub fn write_lanes_line<S: Sink>(sink: &mut S, no: &LaneNo) -> Result<(), WriteN
 
 #[tactic(auto, unfolding(crate::specs::Lines::many_lanes_line))]
 fn write_many_lanes_line<S: Sink>(sink: &mut S, line: u32) -> Result<(), WriteNo>
-    ensures { Takes (S.taken sink.old) (S.taken sink.new) (S.faults sink.old) (S.faults sink.new)
+    ensures { Writes S.Sink.own sink.old sink.new
         result (many_lanes_line line) }
 {
     let (mut first, mut second) = (Buffer::new(), Buffer::new());

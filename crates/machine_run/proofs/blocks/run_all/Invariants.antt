@@ -1,5 +1,5 @@
 use Rattle.std.proofs.Common.{Ok, ℕ, ◌-◌, ◌≡◌}
-use Rattle.edge_io.specs.Writing.{Takes}
+use Rattle.edge_io.specs.Writing.{Writes}
 use Rattle.net_defs.specs.Time.{cycle_count}
 use Rattle.machine_run.specs.Blocks.{cycles_of_blocks}
 use Rattle.machine_run.specs.Lines.{cells_shown, lines_between}
@@ -9,7 +9,7 @@ use Rattle.machine_run.proofs.blocks.run_all.Given as goal
 abbrev pub invariant-runs : goal.invariant-runs
 invariant-runs g l = record {
   run : (k : ℕ) × AreOver g.G.Gate l.fn.crew.image l.fn.crew.stimulus l.fn.crew.workers l.fn.gates k l.crew l.gates
-      × Takes (g.O.Sink.taken l.fn.out) (g.O.Sink.taken l.out) (g.O.Sink.faults l.fn.out) (g.O.Sink.faults l.out) (Ok tt)
+      × Writes g.O.Sink l.fn.out l.out (Ok tt)
       (lines_between (cells_shown l.fn.crew.image l.fn.crew.stimulus) 0 (cycles_of_blocks l.fn.crew.image l.fn.crew.stimulus k));
   room : l.line.room ≡ l.fn.line.room;
 }

@@ -1,5 +1,5 @@
 use Rattle.std.proofs.Common.{ap, length, subst, sym, ◌∙◌, ◌≤◌}
-use Rattle.edge_io.specs.Writing.{Takes}
+use Rattle.edge_io.specs.Writing.{Writes}
 use Rattle.machine_run.specs.Crews.{CrewView}
 use Rattle.port_host.specs.Rows.{printed_sources}
 use Rattle.trace_text.specs.Line.{row_room}
@@ -13,4 +13,4 @@ write_rows-requires-clause-room g c =
 pub returns-clause-written : goal.returns-clause-written
 returns-clause-written g c =
     let here = rw (c.host.ensures.rows, c.host.ensures.first_row, c.host.ensures.image, c.host.ensures.stimulus) at c.write_rows.ensures.written in
-    subst (λ (v : CrewView). Takes (g.O.Sink.taken c.args.out.now) (g.O.Sink.taken c.write_rows.new.out) (g.O.Sink.faults c.args.out.now) (g.O.Sink.faults c.write_rows.new.out) c.write_rows.result (lines_between (cells_shown v.image v.stimulus) v.first_row v.rows)) c.run_block.ensures.run here
+    subst (λ (v : CrewView). Writes g.O.Sink c.args.out.now c.write_rows.new.out c.write_rows.result (lines_between (cells_shown v.image v.stimulus) v.first_row v.rows)) c.run_block.ensures.run here

@@ -1,5 +1,5 @@
 use Rattle.std.proofs.Common.{Ok, ◌≤◌}
-use Rattle.edge_io.specs.Writing.{Takes}
+use Rattle.edge_io.specs.Writing.{Writes}
 use Rattle.machine_run.specs.Lines.{lines_between}
 use Rattle.pack_machine.specs.code.Lines.{HasLineRoom, cells_in_lane}
 use Rattle.pack_machine.proofs.lines.write_rows.Given as goal
@@ -8,6 +8,6 @@ abbrev pub invariant-rows : goal.invariant-rows
 invariant-rows g l = record {
   room : HasLineRoom l._net l.host.image l.room;
   few : l.c ≤ l.cycles;
-  written : Takes (g.O.Sink.taken l.fn.out) (g.O.Sink.taken l.out) (g.O.Sink.faults l.fn.out) (g.O.Sink.faults l.out) (Ok tt)
+  written : Writes g.O.Sink l.fn.out l.out (Ok tt)
       (lines_between (cells_in_lane l.host l.lane) 0 l.c);
 }

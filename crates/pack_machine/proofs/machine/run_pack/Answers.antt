@@ -4,7 +4,7 @@ use Rattle.std.proofs.lemmas.List.{take_at}
 use Rattle.std.proofs.lemmas.Option.{slice_get_within}
 use Rattle.std.proofs.lemmas.Result.{err_from_is_err_and}
 use Rattle.crew_run.specs.Lending.{AllCanRunWith, AllHaveRunWith}
-use Rattle.edge_io.specs.Writing.{Takes}
+use Rattle.edge_io.specs.Writing.{Writes}
 use Rattle.image_defs.specs.declared.image.Image.{Image}
 use Rattle.stim_text.specs.Lanes.{AreLanes}
 use Rattle.machine_run.proofs.lemmas.TurnLemmas.{in_place_none}
@@ -57,7 +57,7 @@ pub returns : goal.returns
 returns g c =
     let run = ran g (goal.at.returns g c).After-run_with in
     record {
-      written = subst (λ x. Takes (g.O.Sink.taken c.args.out.now) (g.O.Sink.taken c.write_lanes.new.out) (g.O.Sink.faults c.args.out.now) (g.O.Sink.faults c.write_lanes.new.out) c.write_lanes.result (bytes_of_lanes c.args.net.now x c.args.lanes.now)) c.host.ensures.image_is c.write_lanes.ensures;
+      written = subst (λ x. Writes g.O.Sink c.args.out.now c.write_lanes.new.out c.write_lanes.result (bytes_of_lanes c.args.net.now x c.args.lanes.now)) c.host.ensures.image_is c.write_lanes.ensures;
       visits = have_visits c.args.image.now c.args.lanes.now c.args.workers c.requires.image c.requires.lanes g.G.Gate c.args.gates.now c.requires.enough c.in_ok-crew.crew c.in_ok-crew.ensures c.run_with.new.workers c.run_with.new.gates run;
       unwritten = tt;
       refused = tt;

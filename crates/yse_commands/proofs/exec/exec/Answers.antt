@@ -6,7 +6,7 @@ use Rattle.call_steps.specs.Outcome.{Outcome}
 use Rattle.call_steps.specs.Passing.{AfterRunnable, Continuation}
 use Rattle.call_steps.proofs.lemmas.WeakerLemmas.{runnable_so}
 use Rattle.cmd_words.specs.declared.command.RunWords.{RunWords}
-use Rattle.yse_commands.specs.Refusals.{Follows}
+use Rattle.yse_commands.specs.Refusals.{Follows, FilesFollow}
 use Rattle.yse_commands.specs.Told.{run_turns}
 use Rattle.yse_commands.specs.commands.Exec.{ExpectedExec, RunsImage}
 use Rattle.yse_commands.specs.commands.Run.{RunsTo}
@@ -29,7 +29,7 @@ after_image g c outcome new =
 
 -- and the stimulus, and the run comes to this end
 after_stimulus : (g : given.Over) (c : In_ok-stimulus g) (outcome : Outcome) → RunsTo (length c.in_ok-run.run'.image.ports) c.args.words.now c.in_ok-run.run'.timing c.in_ok-run.run'.net c.in_ok-stimulus.stimulus [] outcome
-    → Follows (g.F.Files.names c.args.files.now) (g.F.Files.bytes c.args.files.now) (g.F.Files.counts c.args.files.now) (g.F.Files.counts c.stimulus_in.new.files) outcome (ExpectedExec c.args.words.now c.args.image.now)
+    → FilesFollow g.F.Files c.args.files.now c.stimulus_in.new.files outcome (ExpectedExec c.args.words.now c.args.image.now)
 after_stimulus g c outcome ends =
     let words = c.args.words.now in
     let run = c.in_ok-run.run' in
