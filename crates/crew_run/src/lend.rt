@@ -59,7 +59,8 @@ pub fn add<S: Stepper, G: Gate>(
     ensures added { OnOk result (workers.new ≡ workers.old ++ worker ∷ []) }
     ensures refused { OnErr result (workers.new ≡ workers.old) }
     ensures ready { AllAreReady S.Stepper.own workers.old → AreReady S.Stepper.own worker.members → OnOk result (AllAreReady S.Stepper.own workers.new) }
-    ensures can { AllCanRun S.Stepper.own G.Gate.own workers.old → CanRun S.Stepper.own G.Gate.own worker → OnOk result (AllCanRun S.Stepper.own G.Gate.own workers.new) }
+    ensures can { AllCanRun S.Stepper.own G.Gate.own workers.old → CanRun S.Stepper.own G.Gate.own worker
+        → OnOk result (AllCanRun S.Stepper.own G.Gate.own workers.new) }
 {
     workers.push(worker)
 }

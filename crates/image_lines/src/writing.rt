@@ -99,7 +99,8 @@ pub fn push_head(
     columns: u32,
     ports: usize,
 ) -> Result<(), Memory>
-    ensures { OnOk result (text.new ≡ text.old ++ line_text (line.Head (record { slots = slots; units = units; init = init; columns = columns; ports = ports }))) }
+    ensures { OnOk result (text.new ≡ text.old ++ line_text (line.Head
+        (record { slots = slots; units = units; init = init; columns = columns; ports = ports }))) }
 {
     push_times(text, slots, units, init)?;
     push_named(text, b" columns", columns)?;
@@ -109,7 +110,8 @@ pub fn push_head(
 }
 
 fn push_times(text: &mut Text, slots: u32, units: u32, init: Init) -> Result<(), Memory>
-    ensures { OnOk result (text.new ≡ text.old ++ codes "slots" ++ spaced (decimal slots) ++ codes " units" ++ spaced (decimal units) ++ codes " init" ++ spaced (init_word init)) }
+    ensures { OnOk result (text.new ≡ text.old ++ codes "slots" ++ spaced (decimal slots) ++ codes " units"
+        ++ spaced (decimal units) ++ codes " init" ++ spaced (init_word init)) }
 {
     push_named(text, b"slots", slots)?;
     push_named(text, b" units", units)?;
@@ -196,7 +198,8 @@ pub fn push_task(text: &mut Text, task: &Task, item: u32) -> Result<(), Memory>
 
 /// Adds the line of an evaluation.
 fn push_eval(text: &mut Text, numbers: &[u32], sources: &[Source], item: u32) -> Result<(), Memory>
-    ensures { OnOk result (text.new ≡ text.old ++ codes "eval" ++ flat_map (λ n. spaced (decimal n)) numbers.now ++ flat_map (λ source. spaced (source_word source)) sources.now ++ spaced (decimal item) ++ codes "\n") }
+    ensures { OnOk result (text.new ≡ text.old ++ codes "eval" ++ flat_map (λ n. spaced (decimal n)) numbers.now
+        ++ flat_map (λ source. spaced (source_word source)) sources.now ++ spaced (decimal item) ++ codes "\n") }
 {
     text.push_bytes(b"eval")?;
     push_numbers(text, numbers)?;
@@ -206,7 +209,8 @@ fn push_eval(text: &mut Text, numbers: &[u32], sources: &[Source], item: u32) ->
 
 /// Adds the line of a holding task.
 fn push_hold(text: &mut Text, slot: u32, from: &Source, item: u32) -> Result<(), Memory>
-    ensures { OnOk result (text.new ≡ text.old ++ codes "hold" ++ spaced (decimal slot) ++ spaced (source_word from.now) ++ spaced (decimal item) ++ codes "\n") }
+    ensures { OnOk result (text.new ≡ text.old ++ codes "hold" ++ spaced (decimal slot) ++ spaced (source_word from.now)
+        ++ spaced (decimal item) ++ codes "\n") }
 {
     push_named(text, b"hold", slot)?;
     push_source(text, from)?;

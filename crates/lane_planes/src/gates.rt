@@ -54,7 +54,8 @@ pub fn answered(kind: Kind, base: Planes) -> Planes
 #[inline]
 fn joined_four(kind: Kind, operands: u32, first: Planes, b: Planes, c: Planes, d: Planes) -> Planes
     requires { operands ≤ 4 }
-    ensures { (k : ℕ) → k < LANES → lane_of result k ≡ fold (join_of kind) (lane_of first k) (take (operands - 1) (lane_of b k ∷ lane_of c k ∷ lane_of d k ∷ [])) }
+    ensures { (k : ℕ) → k < LANES → lane_of result k ≡ fold (join_of kind) (lane_of first k)
+        (take (operands - 1) (lane_of b k ∷ lane_of c k ∷ lane_of d k ∷ [])) }
 {
     match operands {
         0 | 1 => first,

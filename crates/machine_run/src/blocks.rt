@@ -54,11 +54,13 @@ fn run_block<R: Threads + Wait + Sync, G: Gate + Send, O: Sink>(
     requires room { row_room (length (printed_sources crew.old.image)) ≤ line.old.room }
     requires cycles { cycle_count crew.old.stimulus ≤ MAX_CYCLES }
     ensures ran { crew.new ≡ at_block_end crew.old }
-    ensures visits { AreVisitsBetween G.Gate.own (length crew.old.image.ports) (turns_made crew.old) (turns_made crew.new) crew.old.workers gates.old gates.new }
+    ensures visits { AreVisitsBetween G.Gate.own (length crew.old.image.ports) (turns_made crew.old)
+        (turns_made crew.new) crew.old.workers gates.old gates.new }
     ensures tell { AllCanTellTurns G.Gate.own (turns_left crew.new) crew.old.workers gates.new }
     ensures kept { AreInPlace gates.old gates.new }
     ensures room { line.new.room ≡ line.old.room }
-    ensures written { Writes O.Sink.own out.old out.new result (lines_between (cells_shown crew.old.image crew.old.stimulus) crew.old.first_row (rows_at_end crew.old)) }
+    ensures written { Writes O.Sink.own out.old out.new result
+        (lines_between (cells_shown crew.old.image crew.old.stimulus) crew.old.first_row (rows_at_end crew.old)) }
 {
     crew.run_block(rt, gates);
     write_rows(out, line, crew.host())
@@ -81,7 +83,9 @@ fn run_all<R: Threads + Wait + Sync, G: Gate + Send, O: Sink>(
     requires room { row_room (length (printed_sources crew.old.image)) ≤ line.old.room }
     ensures written { Writes O.Sink.own out.old out.new result (lines_between (cells_shown crew.old.image crew.old.stimulus) 0 cycles) }
     ensures visits { AreVisitsOfRun G.Gate.own crew.old.image crew.old.stimulus crew.old.workers gates.old gates.new result }
-    ensures stopped { (net : Netlist) (before : Option (List ℕ)) → O.taken out.old ≡ append_known before (header_line net) → OnErr result (StopsInBlock net crew.old.image crew.old.stimulus G.Gate.own crew.old.workers gates.old gates.new before (O.taken out.new)) }
+    ensures stopped { (net : Netlist) (before : Option (List ℕ))
+        → O.taken out.old ≡ append_known before (header_line net)
+        → OnErr result (StopsInBlock net crew.old.image crew.old.stimulus G.Gate.own crew.old.workers gates.old gates.new before (O.taken out.new)) }
     ensures kept { AreInPlace gates.old gates.new }
 {
     'runs: loop {
@@ -114,7 +118,8 @@ fn write_run<R: Threads + Wait + Sync, G: Gate + Send, O: Sink>(
     requires room { HasRoom net.now line.old }
     ensures written { Writes O.Sink.own out.old out.new result (bytes_of_run net.now crew.old.image crew.old.stimulus) }
     ensures visits { AreVisitsOfRun G.Gate.own crew.old.image crew.old.stimulus crew.old.workers gates.old gates.new result }
-    ensures stopped { OnErr result (StopsInBlock net.now crew.old.image crew.old.stimulus G.Gate.own crew.old.workers gates.old gates.new (O.taken out.old) (O.taken out.new)) }
+    ensures stopped { OnErr result
+        (StopsInBlock net.now crew.old.image crew.old.stimulus G.Gate.own crew.old.workers gates.old gates.new (O.taken out.old) (O.taken out.new)) }
     ensures kept { AreInPlace gates.old gates.new }
 {
     line.header(net);
@@ -151,7 +156,8 @@ pub fn run_blocks<R: Threads + Wait + Sync, G: Gate + Send, O: Sink>(
     requires tell { (i : ℕ) (gate : Option G) → i < division.workers → slice_get gates.old i ≡ Some gate → CanTell G.Gate.own gate }
     ensures written { IfOk result (λ wrote. Writes O.Sink.own out.old out.new wrote (bytes_of_run net.now image.now stim.now)) }
     ensures visits { IfOk result (AreVisitsOfRun G.Gate.own image.now stim.now division.workers gates.old gates.new) }
-    ensures stopped { IfOk result (λ wrote. OnErr wrote (StopsInBlock net.now image.now stim.now G.Gate.own division.workers gates.old gates.new (O.taken out.old) (O.taken out.new))) }
+    ensures stopped { IfOk result
+        (λ wrote. OnErr wrote (StopsInBlock net.now image.now stim.now G.Gate.own division.workers gates.old gates.new (O.taken out.old) (O.taken out.new))) }
     ensures unwritten { OnErr result (out.new ≡ out.old) }
     ensures untold { OnErr result (gates.new ≡ gates.old) }
     ensures kept { AreInPlace gates.old gates.new }

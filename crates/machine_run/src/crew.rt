@@ -110,7 +110,8 @@ impl<'a, G: Gate> Crew<'a, G> {
         requires enough { self.old.workers ≤ length gates.old }
         requires tell { AllCanTellTurns G.Gate.own (turns_left self.old) self.old.workers gates.old }
         ensures run { self.new ≡ at_block_end self.old }
-        ensures visits { AreVisitsBetween G.Gate.own (length self.old.image.ports) (turns_made self.old) (turns_made self.new) self.old.workers gates.old gates.new }
+        ensures visits { AreVisitsBetween G.Gate.own (length self.old.image.ports) (turns_made self.old)
+            (turns_made self.new) self.old.workers gates.old gates.new }
         ensures tell { AllCanTellTurns G.Gate.own (turns_left self.new) self.old.workers gates.new }
         ensures kept { AreInPlace gates.old gates.new }
     {

@@ -27,7 +27,8 @@ pub(crate) fn write_rows<O: Sink>(
     requires room { row_room (length (printed_sources host.now.port.image)) ≤ line.old.room }
     requires cycles { rows_done host.now.port ≤ MAX_CYCLES }
     ensures room { line.new.room ≡ line.old.room }
-    ensures written { Writes O.Sink.own out.old out.new result (lines_between (cells_shown host.now.port.image host.now.port.stimulus) host.now.first_row (rows_done host.now.port)) }
+    ensures written { Writes O.Sink.own out.old out.new result
+        (lines_between (cells_shown host.now.port.image host.now.port.stimulus) host.now.first_row (rows_done host.now.port)) }
 {
     'rows: for c in host.first_row()..host.rows_done() {
         line.row(c + 1, host.cells(c + 1));

@@ -38,7 +38,8 @@ fn go_on_worker<'a, G>(worker: &mut Worker<Seated<'a>, G>)
 
 /// All members of all workers go on.
 pub(crate) fn go_on_all<'a, G>(workers: &mut [Worker<Seated<'a>, G>])
-    requires { (w k : ℕ) (worker : Of Seat G) (seat : Seat) → slice_get workers.old w ≡ Some worker → slice_get worker.members k ≡ Some seat → CanGoOn (placed seat.run) }
+    requires { (w k : ℕ) (worker : Of Seat G) (seat : Seat) → slice_get workers.old w ≡ Some worker
+        → slice_get worker.members k ≡ Some seat → CanGoOn (placed seat.run) }
     ensures { AreMoved HasGoneOn workers.old workers.new }
 {
     'workers: for w in 0..workers.len() {

@@ -112,7 +112,8 @@ fn take_limit<'a>(
     port: &Digits<'a>,
     number: &Digits,
 ) -> Result<(), MachNo>
-    ensures { Answers NoMemory result (fault_in given.old line (Limits what port.now number.now)) (λ _. given.new ≡ given_after given.old (Limits what port.now number.now)) }
+    ensures { Answers NoMemory result (fault_in given.old line (Limits what port.now number.now))
+        (λ _. given.new ≡ given_after given.old (Limits what port.now number.now)) }
 {
     if !given.add_port(what, port)? {
         return Err(MachNo::Twice { line });

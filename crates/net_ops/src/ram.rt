@@ -65,7 +65,8 @@ pub(crate) fn edge_memories<W: Wire>(
     requires ports { ArePorts net.now ports.old }
     ensures long { length row.new ≡ length row.old }
     ensures lanes { length memories.new ≡ length memories.old }
-    ensures each { (l : ℕ) → l < length memories.old → HasActed net.now (lane_row W.lane l row.old) (lane_row W.lane l row.new) (slice_index_or memories.old l []) (slice_index_or memories.new l []) }
+    ensures each { (l : ℕ) → l < length memories.old → HasActed net.now (lane_row W.lane l row.old)
+        (lane_row W.lane l row.new) (slice_index_or memories.old l []) (slice_index_or memories.new l []) }
     ensures ports { ArePorts net.now ports.new }
 {
     'lanes: for l in 0..memories.len() {

@@ -141,7 +141,8 @@ pub(crate) fn make_items(
 /// The number of the first node or latch: that of inputs and memory outputs.
 pub(crate) fn first_node(keys: &[Key]) -> u32
     requires few { length keys.now < 2 ^ 32 }
-    requires classes { (x y : ℕ) (one other : Key) → x ≤ y → slice_get keys.now x ≡ Some one → slice_get keys.now y ≡ Some other → one.class ≡ 2 → other.class ≡ 2 }
+    requires classes { (x y : ℕ) (one other : Key) → x ≤ y → slice_get keys.now x ≡ Some one
+        → slice_get keys.now y ≡ Some other → one.class ≡ 2 → other.class ≡ 2 }
     ensures within { result ≤ length keys.now }
     ensures nodes { (x : ℕ) (key : Key) → slice_get keys.now x ≡ Some key → (key.class ≡ 2) ↔ (result ≤ x) }
 {

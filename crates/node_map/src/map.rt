@@ -70,7 +70,8 @@ pub fn map_nodes(
     requires timing { IsValidTiming timing.now }
     requires ranked { AreRanks net.now timing.now ranks.now }
     ensures items { IfOk result (AreItems net.now timing.now) }
-    ensures values { IfOk result (λ nodes. (stimulus : Stimulus) (values : Items State) → AreItemValues nodes timing.now stimulus values → AreReferenceValues net.now timing.now stimulus nodes values) }
+    ensures values { IfOk result (λ nodes. (stimulus : Stimulus) (values : Items State)
+        → AreItemValues nodes timing.now stimulus values → AreReferenceValues net.now timing.now stimulus nodes values) }
 {
     let keys = ranked_keys(alloc, net, timing, ranks.order.as_slice())?;
     let nodes = nodes_of(alloc, net, timing, keys.as_slice())?;

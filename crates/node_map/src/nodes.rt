@@ -113,7 +113,8 @@ pub(crate) fn node(
     requires known { AreMadeIn palette.old.shelf.tables palette.old.made }
     ensures known { OnOk result (AreMadeIn palette.new.shelf.tables palette.new.made) }
     ensures kept { OnOk result (Keeps palette.old.shelf.tables palette.new.shelf.tables) }
-    ensures node { IfOk result (IsNodeAt numbering.now.names palette.old.shelf.tables palette.new.shelf.tables late signal (operands_of net.now signal) kind place) }
+    ensures node { IfOk result
+        (IsNodeAt numbering.now.names palette.old.shelf.tables palette.new.shelf.tables late signal (operands_of net.now signal) kind place) }
 {
     let count = operands(net, signal).len() as u32;
     let group = group_at(count, place);

@@ -42,7 +42,8 @@ impl Numbering {
 
     /// The number of the item of a helper.
     pub(crate) fn helper_item(&self, signal: u32, helper: u32) -> u32
-        ensures { (net : Net) → IsNumbering net self.now → signal < length net.signals → helper < helpers_at net signal → IsNamed self.now.names result (helper_of signal helper) }
+        ensures { (net : Net) → IsNumbering net self.now → signal < length net.signals → helper < helpers_at net signal
+            → IsNamed self.now.names result (helper_of signal helper) }
     {
         let start = number(self.starts.as_slice(), signal as usize);
         number(self.numbers.as_slice(), start as usize + helper as usize)

@@ -112,7 +112,8 @@ pub(crate) fn push_items(
     requires homes { length homes.now.items ≡ length nodes.now.items }
     requires slots { length slots.now ≡ length nodes.now.items }
     requires shape { length figures.now.readers.lists ≡ length nodes.now.items }
-    ensures { OnOk result (text.new ≡ text.old ++ flat_map (item_line net.now nodes.now homes.now slots.now figures.now) (range_with_len 0 (length nodes.now.items))) }
+    ensures { OnOk result (text.new ≡ text.old ++ flat_map (item_line net.now nodes.now homes.now slots.now figures.now)
+        (range_with_len 0 (length nodes.now.items))) }
 {
     'items: for i in 0..nodes.items.len() {
         push_item(text, net, nodes, homes, slots, figures, i)?;

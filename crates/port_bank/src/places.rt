@@ -92,7 +92,8 @@ impl<W: Word> Places<W> {
     pub(crate) fn set(&mut self, place: u32, v: W)
         requires { place < count self.old }
         ensures count { count self.new ≡ count self.old }
-        ensures lanes { (l : ℕ) → l < W.lanes → in_lane W.lane l self.new ≡ record (in_lane W.lane l self.old) { this = set (in_lane W.lane l self.old).this place (W.lane v l) } }
+        ensures lanes { (l : ℕ) → l < W.lanes → in_lane W.lane l self.new
+            ≡ record (in_lane W.lane l self.old) { this = set (in_lane W.lane l self.old).this place (W.lane v l) } }
     {
         self.flat
             .set(2 * place as usize + number_of(self.second) as usize, v);
@@ -102,7 +103,8 @@ impl<W: Word> Places<W> {
     #[inline]
     pub(crate) fn swap(&mut self)
         ensures count { count self.new ≡ count self.old }
-        ensures lanes { (l : ℕ) → l < W.lanes → in_lane W.lane l self.new ≡ record { this = (in_lane W.lane l self.old).past; past = (in_lane W.lane l self.old).this } }
+        ensures lanes { (l : ℕ) → l < W.lanes → in_lane W.lane l self.new
+            ≡ record { this = (in_lane W.lane l self.old).past; past = (in_lane W.lane l self.old).this } }
     {
         self.second = !self.second;
     }

@@ -28,9 +28,12 @@ pub fn rule_is_kept()
 /// its pass, no two seats have one port's pass, and the word that the last step of all saw tells what
 /// that step saw there.
 pub fn rule_is_sound()
-    ensures sound { (key : PlainKey) (s : State (Unit {0}) PlainView) → ⟦<Law<Plain> as TableRule<(), View<Stimulus>, Key<Stimulus>>>⟧.holds key s → ArePassesSound key s }
-    ensures distinct { (key : PlainKey) (s : State (Unit {0}) PlainView) → ⟦<Law<Plain> as TableRule<(), View<Stimulus>, Key<Stimulus>>>⟧.holds key s → AreDistinct s.views }
-    ensures looks { (key : PlainKey) (s : State (Unit {0}) PlainView) → ⟦<Law<Plain> as TableRule<(), View<Stimulus>, Key<Stimulus>>>⟧.holds key s → AreLooks key.image.value s.words s.views }
+    ensures sound { (key : PlainKey) (s : State (Unit {0}) PlainView)
+        → ⟦<Law<Plain> as TableRule<(), View<Stimulus>, Key<Stimulus>>>⟧.holds key s → ArePassesSound key s }
+    ensures distinct { (key : PlainKey) (s : State (Unit {0}) PlainView)
+        → ⟦<Law<Plain> as TableRule<(), View<Stimulus>, Key<Stimulus>>>⟧.holds key s → AreDistinct s.views }
+    ensures looks { (key : PlainKey) (s : State (Unit {0}) PlainView)
+        → ⟦<Law<Plain> as TableRule<(), View<Stimulus>, Key<Stimulus>>>⟧.holds key s → AreLooks key.image.value s.words s.views }
 {}
 
 /// A law: looks are looks. Whatever a step of a seat reads or writes, and whatever is told of it: where

@@ -50,7 +50,8 @@ fn coverage_of<'a, F: Files>(
     requires ranks { AreRanks design.now.net timing.now design.now.ranks }
     ensures same_names { F.names files.new ≡ F.names files.old }
     ensures same_bytes { F.bytes files.new ≡ F.bytes files.old }
-    ensures expected { FilesFollow F.Files.own files.old files.new (outcome_of None result) (AfterStimulus words.now.stimulus design.now.net (WritesCoverage design.now.net timing.now)) }
+    ensures expected { FilesFollow F.Files.own files.old files.new (outcome_of None result)
+        (AfterStimulus words.now.stimulus design.now.net (WritesCoverage design.now.net timing.now)) }
     ensures writable { IfOk result CanWrite }
 {
     let stimulus = stimulus_in(alloc, files, words.stimulus.as_bytes(), &design.net)?;

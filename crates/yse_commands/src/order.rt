@@ -53,7 +53,8 @@ fn in_order<'a, F: Files>(
     requires homes { ready.placed.homes ≡ words.now.homes }
     ensures same_names { F.names files.new ≡ F.names files.old }
     ensures same_bytes { F.bytes files.new ≡ F.bytes files.old }
-    ensures expected { FilesFollow F.Files.own files.old files.new (outcome_of None result) (AfterOrderFile file.now ready.placed.machine (EndsAfter words.now ready.placed ready.stimulus)) }
+    ensures expected { FilesFollow F.Files.own files.old files.new (outcome_of None result)
+        (AfterOrderFile file.now ready.placed.machine (EndsAfter words.now ready.placed ready.stimulus)) }
     ensures writable { IfOk result CanWrite }
 {
     let order = order_for(alloc, files, file, &ready)?;

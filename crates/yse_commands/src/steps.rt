@@ -46,7 +46,8 @@ pub fn on_workers<R: Threads + Wait + Sync, O: Sink, G: Gate + Send>(
     requires tell { AllCanTell G.Gate.own gates.old }
     ensures printed { IfOk result (λ run. IsTrace ready.placed.net ready.placed.timing ready.stimulus (run_bytes run)) }
     ensures written { IfOk result (λ run. Writes O.Sink.own out.old out.new run.wrote (run_bytes run)) }
-    ensures visits { IfOk result (λ run. TellsTurns G.Gate.own gates.old gates.new run.wrote (Some (run_turns (ports_of ready.placed.machine) words.now ready.placed.timing ready.placed.net ready.stimulus))) }
+    ensures visits { IfOk result (λ run. TellsTurns G.Gate.own gates.old gates.new run.wrote
+        (Some (run_turns (ports_of ready.placed.machine) words.now ready.placed.timing ready.placed.net ready.stimulus))) }
     ensures unwritten { OnErr result (out.new ≡ out.old) }
     ensures refused { OnErr result (gates.new ≡ gates.old) }
     ensures in_place { AreInPlace gates.old gates.new }
@@ -74,7 +75,8 @@ pub fn by_workers<R: Threads + Wait + Sync, O: Sink, G: Gate + Send>(
     requires tell { AllCanTell G.Gate.own gates.old }
     ensures printed { IfOk result (λ written. IsTrace run.net run.timing stimulus (run_bytes written)) }
     ensures written { IfOk result (λ written. Writes O.Sink.own out.old out.new written.wrote (run_bytes written)) }
-    ensures visits { IfOk result (λ written. TellsTurns G.Gate.own gates.old gates.new written.wrote (Some (run_turns (length run.image.ports) words.now run.timing run.net stimulus))) }
+    ensures visits { IfOk result (λ written. TellsTurns G.Gate.own gates.old gates.new written.wrote
+        (Some (run_turns (length run.image.ports) words.now run.timing run.net stimulus))) }
     ensures unwritten { OnErr result (out.new ≡ out.old) }
     ensures refused { OnErr result (gates.new ≡ gates.old) }
     ensures in_place { AreInPlace gates.old gates.new }
@@ -119,7 +121,8 @@ pub fn by_order(
 ) -> Result<Output, Memory>
     requires range { IsRunInRange words.now }
     requires order { IsValidOrder (ports_of ready.placed.machine) order.now }
-    ensures ended { IfOk result (λ output. EndsInOrder order.now words.now.banks ready.placed.homes ready.placed.net ready.placed.machine ready.placed.timing ready.stimulus (telling None (ended_with output))) }
+    ensures ended { IfOk result
+        (λ output. EndsInOrder order.now words.now.banks ready.placed.homes ready.placed.net ready.placed.machine ready.placed.timing ready.stimulus (telling None (ended_with output))) }
     ensures writable { IfOk result CanWrite }
 {
     let Ready { design, stimulus } = ready;

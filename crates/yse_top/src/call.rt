@@ -36,7 +36,8 @@ pub fn call<R: Threads + Wait + Sync, F: Files, O: Sink, E: Sink, G: Gate + Send
     requires tell { AllCanTell G.Gate.own gates.old }
     ensures same_names { F.names files.new ≡ F.names files.old }
     ensures same_bytes { F.bytes files.new ≡ F.bytes files.old }
-    ensures came { CameTo G.Gate.own gates.old gates.new (F.names files.old) (F.bytes files.old) (F.counts files.old) (F.counts files.new) (Expected (map string_bytes words.now))
+    ensures came { CameTo G.Gate.own gates.old gates.new (F.names files.old) (F.bytes files.old) (F.counts files.old)
+        (F.counts files.new) (Expected (map string_bytes words.now))
         result (O.taken out.old) (O.taken out.new) (O.faults out.old) (O.faults out.new)
         (TakesLine (E.taken err.old) (E.taken err.new) (E.faults err.old) (E.faults err.new)) }
     ensures no_output { (MayWrite result → ⊥) → out.new ≡ out.old }
@@ -69,7 +70,8 @@ fn obey<R: Threads + Wait + Sync, F: Files, O: Sink, E: Sink, G: Gate + Send>(
     requires tell { AllCanTell G.Gate.own gates.old }
     ensures same_names { F.names files.new ≡ F.names files.old }
     ensures same_bytes { F.bytes files.new ≡ F.bytes files.old }
-    ensures came { CameTo G.Gate.own gates.old gates.new (F.names files.old) (F.bytes files.old) (F.counts files.old) (F.counts files.new) (ExpectedOf command.now)
+    ensures came { CameTo G.Gate.own gates.old gates.new (F.names files.old) (F.bytes files.old) (F.counts files.old)
+        (F.counts files.new) (ExpectedOf command.now)
         result (O.taken out.old) (O.taken out.new) (O.faults out.old) (O.faults out.new)
         (TakesLine (E.taken err.old) (E.taken err.new) (E.faults err.old) (E.faults err.new)) }
     ensures no_output { (MayWrite result → ⊥) → out.new ≡ out.old }

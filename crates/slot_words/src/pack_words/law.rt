@@ -25,7 +25,8 @@ use stim_text::Lanes;
 /// nothing; and 0, which no turn from 1 to 15 made, gives nothing in these.
 pub fn words_tell_their_turn()
     ensures now { (turn : ℕ) (planes : Planes) (taken : PackTaken) → IsReadIn (packed turn planes) turn taken → taken ≡ Value planes }
-    ensures later { (turn put : ℕ) (planes : Planes) (taken : PackTaken) → put < turn → turn ≤ put + 15 → IsReadIn (packed put planes) turn taken → taken ≡ NotYet }
+    ensures later { (turn put : ℕ) (planes : Planes) (taken : PackTaken) → put < turn → turn ≤ put + 15
+        → IsReadIn (packed put planes) turn taken → taken ≡ NotYet }
     ensures first { (turn : ℕ) (taken : PackTaken) → 1 ≤ turn → turn ≤ 15 → IsReadIn 0 turn taken → taken ≡ NotYet }
 {}
 
@@ -40,9 +41,12 @@ pub fn rule_is_kept()
 /// has the planes of those; no two seats have one port's pass; and the word that the last step of all saw tells what
 /// that step saw there.
 pub fn rule_is_sound()
-    ensures sound { (key : PackKey) (s : State (Unit {0}) PackView) → ⟦<Law<Packed> as TableRule<(), View<Lanes>, Key<Lanes>>>⟧.holds key s → ArePassesSound key s }
-    ensures distinct { (key : PackKey) (s : State (Unit {0}) PackView) → ⟦<Law<Packed> as TableRule<(), View<Lanes>, Key<Lanes>>>⟧.holds key s → AreDistinct s.views }
-    ensures looks { (key : PackKey) (s : State (Unit {0}) PackView) → ⟦<Law<Packed> as TableRule<(), View<Lanes>, Key<Lanes>>>⟧.holds key s → AreLooks key.image.value s.words s.views }
+    ensures sound { (key : PackKey) (s : State (Unit {0}) PackView)
+        → ⟦<Law<Packed> as TableRule<(), View<Lanes>, Key<Lanes>>>⟧.holds key s → ArePassesSound key s }
+    ensures distinct { (key : PackKey) (s : State (Unit {0}) PackView)
+        → ⟦<Law<Packed> as TableRule<(), View<Lanes>, Key<Lanes>>>⟧.holds key s → AreDistinct s.views }
+    ensures looks { (key : PackKey) (s : State (Unit {0}) PackView)
+        → ⟦<Law<Packed> as TableRule<(), View<Lanes>, Key<Lanes>>>⟧.holds key s → AreLooks key.image.value s.words s.views }
 {}
 
 /// A law: looks are looks. Whatever a step of a seat reads or writes, and whatever is told of it: where the rule
