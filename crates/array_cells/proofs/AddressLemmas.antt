@@ -1,15 +1,10 @@
 -- The number that the bits of an address say, bit by bit.
 use Rattle.std.proofs.Common.{inl, inr, ◌≡◌, ℕ, ◌+◌, ◌*◌, ◌%◌, ◌^◌, ◌<◌, ◌≤◌, List, [], ◌∷◌, ◌++◌, length, take, get_or, sym, ◌∙◌, ap, arith, pow-suc}
+use Rattle.std.proofs.lemmas.{List.take_more, List.length-take-le, Nat.shl_whole, Nat.pow_below, Bool.cases_lt}
+use Rattle.std.proofs.Math.Nat.{pow-le-pow_right}
 use Rattle.std.specs.Prelude.{if◌then◌else◌, Some, None, true, false}
 use Rattle.std.specs.List.{list_all}
-use Rattle.std.proofs.lemmas.List.{take_more, length-take-le}
-use Rattle.std.proofs.lemmas.Nat.{shl_whole, pow_below}
-use Rattle.std.proofs.lemmas.Bool.{cases_lt}
-use Rattle.std.proofs.Math.Nat.{pow-le-pow_right}
-use Rattle.logic_four.specs.declared.V4.{V4}
-use Rattle.logic_four.specs.declared.V4.TheVariants.{Zero}
-use Rattle.logic_four.specs.Gates.{is_one, is_known}
-use Rattle.logic_four.specs.Memory.{bits_number, address_of}
+use Rattle.logic_four.specs.{declared.V4.V4, declared.V4.TheVariants.Zero, Gates.is_one, Gates.is_known, Memory.bits_number, Memory.address_of}
 use Rattle.logic_four.proofs.lemmas.MemoryLemmas.{bits_number-within}
 
 abbrev pub digit_of : V4 → ℕ

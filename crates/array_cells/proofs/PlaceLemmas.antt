@@ -1,13 +1,8 @@
 -- Values that are written and read place by place.
 use Rattle.std.proofs.Common.{inl, inr, ◌≡◌, ◌≢◌, ◌⊎◌, ℕ, ◌+◌, ◌<◌, ◌≤◌, List, length, get_or, sym, ◌∙◌, arith}
-use Rattle.std.proofs.lemmas.Bool.{cases_eq}
-use Rattle.std.proofs.lemmas.List.{ext_get_or}
-use Rattle.std.proofs.lemmas.List.FromFn.{length-map-range_with_len, get_or-map-range_with_len}
-use Rattle.logic_four.specs.declared.V4.{V4}
-use Rattle.logic_four.specs.declared.V4.TheVariants.{One, Undef}
-use Rattle.logic_four.specs.Packed.{packed_value}
-use Rattle.array_cells.specs.Places.{values_from}
-use Rattle.array_cells.specs.code.Places.{Writes, stored}
+use Rattle.std.proofs.lemmas.{Bool.cases_eq, List.ext_get_or, List.FromFn.length-map-range_with_len, List.FromFn.get_or-map-range_with_len}
+use Rattle.logic_four.specs.{declared.V4.V4, declared.V4.TheVariants.One, declared.V4.TheVariants.Undef, Packed.packed_value}
+use Rattle.array_cells.specs.{Places.values_from, code.Places.Writes, code.Places.stored}
 
 -- unless the enable is 1, an undefined bit is stored
 pub stored_undefined : (we bit : V4) → we ≢ One → Undef ≡ stored we bit

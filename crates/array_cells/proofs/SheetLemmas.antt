@@ -4,8 +4,7 @@ use Rattle.std.proofs.lemmas.Bool.{cases_eq, cond-true, cond-false, eq-eqb, ne_e
 use Rattle.std.proofs.lemmas.List.{get_or_read, ext_get_or, length-set, length-replicate, get_or-replicate}
 use Rattle.std.proofs.lemmas.List.FromFn.{length-map-range_with_len, get_or-map-range_with_len}
 use Rattle.std.specs.Prelude.{slice_index}
-use Rattle.array_cells.specs.declared.sheet.Sheet.TheInside.{Inside}
-use Rattle.array_cells.specs.declared.sheet.TheConstants.{BLANK}
+use Rattle.array_cells.specs.declared.sheet.{Sheet.TheInside.Inside, TheConstants.BLANK}
 use Rattle.array_cells.specs.code.Sheets.{word_after, words_after, IsDated}
 
 pub length-words_after : (words seen : List ℕ) (clearings : ℕ) → length (words_after words seen clearings) ≡ length words

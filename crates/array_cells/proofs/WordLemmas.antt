@@ -1,17 +1,12 @@
 -- The words of a memory among its places.
 use Rattle.std.proofs.Common.{inl, inr, ◌≡◌, ◌≢◌, ◌⊎◌, ℕ, ◌+◌, ◌*◌, ◌<◌, ◌≤◌, List, [], ◌∷◌, length, map, set, get_or, replicate, refl, sym, ◌∙◌, ap, arith, get_or-set_same, get_or-set_other}
-use Rattle.std.proofs.lemmas.Bool.{cases_eq, cases_lt}
 use Rattle.std.proofs.lemmas.List.{ext_get_or, length-set, length-map, length-replicate, get_or-replicate, get_or-map}
-use Rattle.std.proofs.lemmas.List.FromFn.{length-map-range_with_len, get_or-map-range_with_len}
-use Rattle.std.proofs.lemmas.Nat.{row_fits, mul-le}
-use Rattle.std.proofs.lemmas.Option.{slice_get-get_or}
+use Rattle.std.proofs.lemmas.{Bool.cases_eq, Bool.cases_lt, List.FromFn.length-map-range_with_len, List.FromFn.get_or-map-range_with_len}
+use Rattle.std.proofs.lemmas.{Nat.row_fits, Nat.mul-le, Option.slice_get-get_or}
 use Rattle.std.specs.Prelude.{Some, None, slice_get}
-use Rattle.logic_four.specs.declared.V4.{V4}
-use Rattle.logic_four.specs.declared.V4.TheVariants.{Zero, Undef}
-use Rattle.logic_four.specs.Memory.{undefined_word, written_at}
-use Rattle.array_cells.specs.declared.cells.Cells.TheInside.{Inside}
+use Rattle.logic_four.specs.{declared.V4.V4, declared.V4.TheVariants.Zero, declared.V4.TheVariants.Undef, Memory.undefined_word, Memory.written_at}
 use Rattle.logic_four.specs.Packed.{packed_value}
-use Rattle.array_cells.specs.Places.{values_from, words_of, HasRoom}
+use Rattle.array_cells.specs.{declared.cells.Cells.TheInside.Inside, Places.values_from, Places.words_of, Places.HasRoom}
 use Rattle.array_cells.specs.code.Places.{Writes, stored}
 
 pub length-values_from : (packed : List ℕ) (base n : ℕ) → length (values_from packed base n) ≡ n

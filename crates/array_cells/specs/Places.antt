@@ -2,8 +2,7 @@
 use Rattle.std.specs.Prelude.{ℕ, ◌+◌, ◌*◌, ◌^◌, ◌≤◌, List, length, map}
 use Rattle.std.specs.List.{range_with_len}
 use Rattle.limits.specs.declared.TheConstants.{MAX_ADDRESS_BITS, MAX_WORD_BITS}
-use Rattle.logic_four.specs.declared.V4.{V4}
-use Rattle.logic_four.specs.Packed.{packed_value}
+use Rattle.logic_four.specs.{declared.V4.V4, Packed.packed_value}
 
 -- the values in so many places, from a place on
 unfoldable pub values_from : List ℕ → ℕ → ℕ → List V4

@@ -2,8 +2,8 @@
 
 ghost use Rattle.std.specs.Prelude.{◌≡◌, ◌+◌, ◌*◌, ◌^◌, ◌<◌, ◌≤◌, if◌then◌else◌, [], IfOk, Option, Some, IfSome, All, length, map, slice_get, slice_index_or, slice_set};
 ghost use Rattle.std.specs.List.{list_all};
-ghost use Rattle.logic_four.specs.Gates.{is_known, is_one};
 ghost use Rattle.logic_four.specs.Memory.{HasShape, initial_words, memory_act, bits_number, address_of, word_at, written_at, undefined_word};
+ghost use Rattle.logic_four.specs.Gates.{is_known, is_one};
 ghost use Rattle.limits.specs.declared.TheConstants.{MAX_ADDRESS_BITS, MAX_WORD_BITS};
 ghost use Rattle.array_cells.specs.code.Places.{stored};
 

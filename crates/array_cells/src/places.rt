@@ -1,8 +1,7 @@
 //! Values in places of a list of packed words, from a place on.
 
 ghost use Rattle.std.specs.Prelude.{◌≡◌, ◌+◌, ◌*◌, ◌^◌, ◌<◌, ◌≤◌, length, slice_index_or};
-ghost use Rattle.array_cells.specs.Places.{values_from};
-ghost use Rattle.array_cells.specs.code.Places.{Writes, stored};
+ghost use Rattle.array_cells.specs.{Places.values_from, code.Places.Writes, code.Places.stored};
 
 use crate::sheet::Sheet;
 use logic_four::{V4, settle};

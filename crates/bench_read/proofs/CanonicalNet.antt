@@ -1,16 +1,13 @@
 -- The lines of a valid netlist make that netlist.
 use Rattle.std.proofs.Common.{◌≡◌, inl, inr, ℕ, zero, suc, ◌+◌, ◌<◌, false, List, [], ◌∷◌, ◌++◌, append_assoc, drop, length, map, get_or, slice_get, Some, sym, ap, ◌∙◌, refl, arith, bytes_eq, ◌-◌, ◌≤◌, not}
-use Rattle.std.specs.List.{All, filter, flat_map, enumerate_from, range_with_len}
-use Rattle.bench_read.proofs.Common.{cases_lt, false_from_ne_true, ne_eqb, position_or_len_is, All-head, All-tail, slice_get-get_or, slice_get_within, prefix_len-map, Netlist, Signal, Block, Driver, name_of, IsSignal}
-use Rattle.bench_read.proofs.Common.{IsValid, InputsLead, is_input, IsMemory, IsDrivable, Line, Output, BlockBit}
 use Rattle.std.proofs.lemmas.List.{drop_all}
-use Rattle.list_laws.proofs.Places.{drop_here, one_there}
+use Rattle.std.specs.List.{All, filter, flat_map, enumerate_from, range_with_len}
+use Rattle.bench_read.proofs.Common.{cases_lt, false_from_ne_true, ne_eqb, position_or_len_is, All-head, All-tail, slice_get-get_or, slice_get_within, prefix_len-map, Netlist, Signal, Block, Driver, name_of, IsSignal, IsValid, InputsLead, is_input, IsMemory, IsDrivable, Line, Output, BlockBit}
+use Rattle.bench_read.proofs.{NameLemmas.same_name, NameLemmas.same_bytes, MadeLemmas.names_from, MadeLemmas.made_names}
+use Rattle.list_laws.proofs.{Places.drop_here, Places.one_there, Ranges.range_get, Ranges.range_at}
 use Rattle.net_defs.specs.declared.netlist.Driver.TheVariants as driver
 use Rattle.bench_read.specs.Netlists.{input_names, names_of, number, numbers, input_signal, bit_signals, other_signals, printed_names, memories_by, netlist_of}
 use Rattle.bench_read.specs.Written.{names_at, input_line, driver_line, lines_of}
-use Rattle.bench_read.proofs.NameLemmas.{same_name, same_bytes}
-use Rattle.bench_read.proofs.MadeLemmas.{names_from, made_names}
-use Rattle.list_laws.proofs.Ranges.{range_get, range_at}
 
 -- the name of a signal
 pub name_is : (net : Netlist) (s : ℕ) (signal : Signal) → slice_get net.signals s ≡ Some signal → name_of net s ≡ signal.name

@@ -1,11 +1,13 @@
 -- The lines of a valid netlist are allowed and sound, so that its canonical text reads as it.
 use Rattle.std.proofs.Common.{◌≡◌, ◌<◌, slice_get, ℕ, zero, suc, true, cond, List, [], ◌∷◌, length, Some, refl, sym, ap, ◌∙◌, subst, arith, bytes_eq, false, ◌++◌, map, get_or, None}
-use Rattle.std.specs.List.{All, AllByRecursion, count_by, list_any, flat_map}
 use Rattle.std.proofs.lemmas.Bool.{false_from_ne_true, true_from_ne_false, both_ways, ne_eqb}
-use Rattle.bench_read.proofs.Common.{length-map, get_or-map, All-from_recursion, All-weaker, All-nil, All-cons, All-append, All-map, list_any_none, list_any_at, sum_by-cons, count_none, none_counted, allows_operands}
-use Rattle.bench_read.proofs.Common.{Netlist, Signal, name_of, canonical_text, Block, Driver, rows_of, Say, AreOnce, Reads}
-use Rattle.std.proofs.lemmas.Option.{slice_get-get_or, slice_get_within, get_or_from_slice_get}
-use Rattle.std.proofs.lemmas.List.FromFn.{length-range_with_len}
+use Rattle.std.proofs.lemmas.{Option.slice_get-get_or, Option.slice_get_within, Option.get_or_from_slice_get, List.FromFn.length-range_with_len}
+use Rattle.std.specs.List.{All, AllByRecursion, count_by, list_any, flat_map}
+use Rattle.bench_read.proofs.Common.{length-map, get_or-map, All-from_recursion, All-weaker, All-nil, All-cons, All-append, All-map, list_any_none, list_any_at, sum_by-cons, count_none, none_counted, allows_operands, Netlist, Signal, name_of, canonical_text, Block, Driver, rows_of, Say, AreOnce, Reads}
+use Rattle.bench_read.proofs.CanonicalNet.{name_is, outs_are, names_are, netlist_is}
+use Rattle.bench_read.proofs.{CanonicalRows.whole_read, CanonicalRows.IsWhole, NameLemmas.same_name, NameLemmas.same_bytes}
+use Rattle.bench_read.proofs.{MadeLemmas.names_from, MadeLemmas.made_operands, NumberLemmas.either_order, NumberLemmas.names_length}
+use Rattle.bench_read.proofs.ShapeLemmas.{canonical_is_written}
 use Rattle.list_laws.proofs.Members.{all_flat_of}
 use Rattle.text_lines.specs.Names.{IsName}
 use Rattle.bench_text.specs.Tokens.{first_fault as byte_fault}
@@ -13,12 +15,6 @@ use Rattle.net_defs.specs.declared.netlist.Driver.TheVariants as driver
 use Rattle.net_defs.specs.Valid.{IsSignal, NamesDiffer, IsValid, IsDrivable}
 use Rattle.bench_read.specs.Lines.{used, all_driven, all_used, Output, Memory}
 use Rattle.bench_read.specs.Written.{lines_of, names_at, input_line, driver_line}
-use Rattle.bench_read.proofs.CanonicalNet.{name_is, outs_are, names_are, netlist_is}
-use Rattle.bench_read.proofs.CanonicalRows.{whole_read, IsWhole}
-use Rattle.bench_read.proofs.NameLemmas.{same_name, same_bytes}
-use Rattle.bench_read.proofs.MadeLemmas.{names_from, made_operands}
-use Rattle.bench_read.proofs.NumberLemmas.{either_order, names_length}
-use Rattle.bench_read.proofs.ShapeLemmas.{canonical_is_written}
 
 -- ---- the lines
 

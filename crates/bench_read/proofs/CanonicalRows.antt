@@ -1,18 +1,16 @@
 -- The rows of lines that are written with names say those lines, and their text has no fault of its bytes.
 use Rattle.std.proofs.Common.{◌≡◌, Bool, length, ℕ, ◌+◌, true, false, List, [], ◌∷◌, ◌++◌, None, Ok, ap, ◌∙◌, refl, arith, append_assoc}
-use Rattle.bench_read.proofs.Common.{codes, All-head, All-tail, all_front, all_back, Kind, is_visible, parts_of, Form, spelled, is_some, rows_in, rows_of, is_word, said_by_gate, said_by_form, Say, allows_memory}
-use Rattle.bench_read.proofs.Common.{some_of, form_by, written_piece, written, text_of_lines}
-use Rattle.std.specs.List.{All, flat_map, enumerate_from}
 use Rattle.std.proofs.lemmas.Bool.{cond-true, cond-false, false_from_ne_true}
-use Rattle.logic_four.specs.declared.Kind.TheVariants.{And}
-use Rattle.logic_four.specs.Kinds.{kind_of, kind_word, allows_operands}
+use Rattle.bench_read.proofs.Common.{codes, All-head, All-tail, all_front, all_back, Kind, is_visible, parts_of, Form, spelled, is_some, rows_in, rows_of, is_word, said_by_gate, said_by_form, Say, allows_memory, some_of, form_by, written_piece, written, text_of_lines}
+use Rattle.bench_read.proofs.PieceLemmas.{line_cut, part_plain, no_fault, AreClean, AreRead, none_read, sign_read, word_read, listed_read}
+use Rattle.std.specs.List.{All, flat_map, enumerate_from}
+use Rattle.logic_four.specs.{declared.Kind.TheVariants.And, Kinds.kind_of, Kinds.kind_word, Kinds.allows_operands}
 use Rattle.logic_four.proofs.lemmas.KindLemmas.{canonical, any_case, some_operands}
 use Rattle.text_lines.specs.Names.{IsName, is_mark, is_name_byte}
-use Rattle.bench_text.specs.Tokens.{first_fault as byte_fault}
 use Rattle.bench_text.specs.declared.token.Mark.TheVariants.{Open, Close, Semi, Equals, Left, Right}
+use Rattle.bench_text.specs.Tokens.{first_fault as byte_fault}
 use Rattle.bench_text.specs.Forms as forms
 use Rattle.bench_read.specs.Lines.{driven, used, Line, Input, Output, Gate, Register, Memory}
-use Rattle.bench_read.proofs.PieceLemmas.{line_cut, part_plain, no_fault, AreClean, AreRead, none_read, sign_read, word_read, listed_read}
 
 -- the numbers of its names are allowed
 abbrev pub is_allowed : Line → Bool

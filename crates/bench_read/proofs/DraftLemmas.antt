@@ -3,14 +3,13 @@ use Rattle.std.proofs.Common.{◌≡◌, ℕ, List, [], ◌∷◌, ◌++◌, app
 use Rattle.std.proofs.lemmas.List.{take_at, drop_at, length-map, map-append}
 use Rattle.std.proofs.lemmas.List.Elements.{filter-append}
 use Rattle.bench_read.proofs.Common.{Row, row_of, is_some, rows_of, rows_in, Placed, lines_at, placed_of, each_named, lines_by, option_or, flat_map-append, Act}
-use Rattle.bench_read.specs.declared.draft.Draft.{Draft}
-use Rattle.bench_read.specs.declared.draft.Statement.{Statement}
+use Rattle.bench_read.proofs.RowLemmas.{names_driven, rows_none, drivers_push, operands_push, placed_push, rows_push}
+use Rattle.bench_read.proofs.TwiceLemmas.{names_in, names_same}
 use Rattle.bench_read.specs.Lines.{Line, Gate, Memory, driven, used, all_driven, all_used, operands}
 use Rattle.bench_read.specs.Faults.{rows_fault, twice_fault, limit_fault, many_fault, line_fault}
 use Rattle.bench_read.specs.code.Drafting.{driven_names, placed_in, IsDraftOf, used_names}
 use Rattle.bench_read.specs.code.Storing.{act_of, statement_of, Stores, operands_by, named_by, names_by, IsFound}
-use Rattle.bench_read.proofs.TwiceLemmas.{names_in, names_same}
-use Rattle.bench_read.proofs.RowLemmas.{names_driven, rows_none, drivers_push, operands_push, placed_push, rows_push}
+use Rattle.bench_read.specs.declared.draft.{Draft.Draft, Statement.Statement}
 
 operands_same : (line : Line) → operands_by (act_of line) ≡ length (operands line)
 operands_same (Memory outs enable address words) = omega (arith, length-append address words)

@@ -1,18 +1,14 @@
 -- The lines of a text, and how much they make.
 use Rattle.std.proofs.Common.{◌≡◌, ℕ, suc, ◌≤◌, Bool, true, false, cond, List, [], ◌∷◌, ◌++◌, length, map, Option, Some, None, Ok, Err, subst, refl, arith}
-use Rattle.bench_read.proofs.Common.{codes, length-map, length-enumerate_from, Kind, kind_of, AllowsOperands, is_line_feed, Piece, Word, commas, spelled, Row, row_of, is_some, rows_of, BenchNo, Syntax, UnknownKind}
-use Rattle.bench_read.proofs.Common.{Arity, printed_names}
-use Rattle.std.specs.List.{AllByRecursion, flat_map, enumerate_from, onto_first}
 use Rattle.std.proofs.lemmas.List.Sums.{length-filter, count_by-le-length}
-use Rattle.text_lines.specs.Lines.{lines_of, parts_of}
-use Rattle.text_lines.specs.Names.{IsName}
+use Rattle.bench_read.proofs.Common.{codes, length-map, length-enumerate_from, Kind, kind_of, AllowsOperands, is_line_feed, Piece, Word, commas, spelled, Row, row_of, is_some, rows_of, BenchNo, Syntax, UnknownKind, Arity, printed_names}
+use Rattle.bench_read.proofs.{FoundLemmas.AreMemoryBits, FoundLemmas.memory_bits, SaidLemmas.from_ok, WordLemmas.IsNamed}
+use Rattle.std.specs.List.{AllByRecursion, flat_map, enumerate_from, onto_first}
+use Rattle.text_lines.specs.{Lines.lines_of, Lines.parts_of, Names.IsName}
 use Rattle.bench_text.specs.Forms.{Names, all_of, Form}
 use Rattle.bench_text.specs.Forms as forms
 use Rattle.bench_read.specs.Lines.{Line, Input, Output, Gate, Register, Memory, driven}
 use Rattle.bench_read.specs.Saying.{is_word, said_by_register, said_by_gate, said_by_memory, said_by_form, Say}
-use Rattle.bench_read.proofs.FoundLemmas.{AreMemoryBits, memory_bits}
-use Rattle.bench_read.proofs.SaidLemmas.{from_ok}
-use Rattle.bench_read.proofs.WordLemmas.{IsNamed}
 
 -- ---- the names of a line
 

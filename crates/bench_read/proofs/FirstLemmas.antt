@@ -1,7 +1,7 @@
 -- The first fault of members that come one after another.
 use Rattle.std.proofs.Common.{◌≡◌, ℕ, zero, suc, ◌<◌, List, [], ◌∷◌, ◌++◌, append_assoc, append-nil, length, take, slice_get, Option, Some, None, sym, ap, ◌∙◌, subst, refl, arith, add-one}
-use Rattle.bench_read.proofs.Common.{◌↔◌, option_or, take-append_seam, first}
 use Rattle.std.proofs.lemmas.List.{length_push, take-append-le}
+use Rattle.bench_read.proofs.Common.{◌↔◌, option_or, take-append_seam, first}
 use Rattle.list_laws.proofs.Places.{at_front, seam_at}
 use Rattle.text_lines.proofs.lemmas.AnswerLemmas.{first-zero, first-suc, or_none}
 

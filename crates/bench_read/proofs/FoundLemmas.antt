@@ -1,14 +1,11 @@
 -- The line that a row says, by its head and the word and numbers in it.
 use Rattle.std.proofs.Common.{◌≡◌, ℕ, ◌≤◌, Bool, true, false, cond, eqb, List, [], ◌∷◌, ◌++◌, append-nil, length, Option, Some, None, Result, Ok, Err, ap, ◌∙◌, refl, arith}
-use Rattle.bench_read.proofs.Common.{MatchResult, Kind, kind_of, allows_operands, all_of, Form, Row, form_of, BenchNo, Syntax, UnknownKind, Arity, Act, Line, driven, used, allows_memory, said_by_gate, said_by_form}
-use Rattle.bench_read.proofs.Common.{said_by, said}
-use Rattle.std.proofs.lemmas.Bool.{eqb-true}
-use Rattle.std.proofs.lemmas.List.{nil_from_length}
+use Rattle.std.proofs.lemmas.{Bool.eqb-true, List.nil_from_length}
+use Rattle.bench_read.proofs.Common.{MatchResult, Kind, kind_of, allows_operands, all_of, Form, Row, form_of, BenchNo, Syntax, UnknownKind, Arity, Act, Line, driven, used, allows_memory, said_by_gate, said_by_form, said_by, said}
 use Rattle.limits.specs.declared.TheConstants.{MAX_ADDRESS_BITS, MAX_GATE_OPERANDS, MAX_WORD_BITS}
 use Rattle.logic_four.specs.declared.Kind.TheVariants as kind
-use Rattle.bench_text.specs.declared.form.Head.{Head}
+use Rattle.bench_text.specs.{declared.form.Head.Head, Heads.HasHead, Heads.FoundForm}
 use Rattle.bench_text.specs.declared.form.Head.TheVariants as head
-use Rattle.bench_text.specs.Heads.{HasHead, FoundForm}
 use Rattle.bench_read.specs.declared.draft.Act.TheVariants as act
 use Rattle.bench_read.specs.Lines as lines
 use Rattle.bench_read.specs.code.Storing.{act_by_kind, act_by_head, act_of, name_in, driven_by, printed_by, IsFound}

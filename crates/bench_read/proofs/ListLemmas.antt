@@ -1,15 +1,11 @@
 -- A text reads as a list of gates exactly where it has no fault.
 use Rattle.std.proofs.Common.{◌≡◌, ◌⊎◌, ℕ, Bool, true, false, cond, List, [], ◌∷◌, Option, Some, None, inl, inr, sym, ap, ◌∙◌, refl}
 use Rattle.std.proofs.lemmas.Bool.{cond-false}
-use Rattle.text_lines.specs.Lines.{parts_of}
-use Rattle.text_lines.specs.Words.{words_of}
-use Rattle.net_defs.specs.declared.netlist.Netlist.{Netlist}
-use Rattle.net_defs.specs.Steps.{is_listed}
-use Rattle.bench_read.specs.declared.refusal.LastNo.{LastNo}
-use Rattle.bench_read.specs.declared.refusal.LastNo.TheVariants.{Syntax, Twice}
+use Rattle.text_lines.specs.{Lines.parts_of, Words.words_of}
+use Rattle.net_defs.specs.{declared.netlist.Netlist.Netlist, Steps.is_listed}
 use Rattle.bench_read.specs.GateLists.{is_name, gate_named, gate_of_words, gate_of, gates_of, ascending, Reads, gate_fault, words_fault, fault_of, first_fault}
-use Rattle.bench_read.proofs.OnlyLemmas.{value_or_fault}
-use Rattle.bench_read.proofs.OnceLemmas.{IsFine, once_from_none, none_from_once}
+use Rattle.bench_read.specs.declared.refusal.LastNo.{LastNo, TheVariants.Syntax, TheVariants.Twice}
+use Rattle.bench_read.proofs.{OnlyLemmas.value_or_fault, OnceLemmas.IsFine, OnceLemmas.once_from_none, OnceLemmas.none_from_once}
 
 -- ---- one line
 

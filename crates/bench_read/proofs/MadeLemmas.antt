@@ -1,7 +1,7 @@
 -- The names and operands of what lines make.
 use Rattle.std.proofs.Common.{◌≡◌, ℕ, ◌+◌, ◌≤◌, List, [], ◌∷◌, ◌++◌, length, map, ap, refl, arith}
-use Rattle.bench_read.proofs.Common.{sum_by, flat_map, enumerate_from, map-map, sum_by-append, sum_by-cons, Signal, Block}
 use Rattle.std.proofs.lemmas.List.{map-append, map-id, length-map, length-append}
+use Rattle.bench_read.proofs.Common.{sum_by, flat_map, enumerate_from, map-map, sum_by-append, sum_by-cons, Signal, Block}
 use Rattle.list_laws.proofs.Maps.{sum_none_of}
 use Rattle.net_defs.specs.declared.netlist.Driver.TheVariants as driver
 use Rattle.net_defs.specs.Valid.{operand_count as driver_operands, memory_operand_count}

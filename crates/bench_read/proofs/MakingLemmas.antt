@@ -1,12 +1,12 @@
 -- The netlist of lines, made one line after another.
 use Rattle.std.proofs.Common.{◌≡◌, ℕ, ◌+◌, ◌≤◌, List, [], ◌∷◌, ◌++◌, append_assoc, append-nil, length, take, drop, take_at, sym, ap, ◌∙◌, subst, refl, arith, length-append}
-use Rattle.bench_read.proofs.Common.{flat_map, range_with_len, map-append, length-map, drop_at, Netlist, AreOnce}
 use Rattle.std.proofs.Math.Seq.{take-append_seam, drop-append_seam}
+use Rattle.bench_read.proofs.Common.{flat_map, range_with_len, map-append, length-map, drop_at, Netlist, AreOnce}
+use Rattle.bench_read.proofs.MadeLemmas.{names_from, others_names, signal_names, made_operands, memories-le}
+use Rattle.bench_read.proofs.NumberLemmas.{names_once, numbers_range}
 use Rattle.bench_read.specs.Lines.{Line, Memory, used, all_driven, all_used, operand_count}
 use Rattle.bench_read.specs.Netlists.{other_names, names_of, number, numbers, memory_count, other_signals, printed_names, memories_by, netlist_of}
 use Rattle.bench_read.specs.code.Making.{with_line}
-use Rattle.bench_read.proofs.MadeLemmas.{names_from, others_names, signal_names, made_operands, memories-le}
-use Rattle.bench_read.proofs.NumberLemmas.{names_once, numbers_range}
 
 -- the netlist with all that lines make beside inputs
 abbrev pub with_lines : List (List ℕ) → Netlist → List Line → Netlist

@@ -1,17 +1,11 @@
 -- Marks of the gates that lines name, and the numbers of those that are marked.
 use Rattle.std.proofs.Common.{◌≡◌, ℕ, zero, suc, ◌+◌, ◌<◌, Bool, true, false, cond, List, [], ◌∷◌, ◌++◌, length, get_or, sym, ap, ◌∙◌, subst, refl, arith, append-nil}
-use Rattle.std.specs.Prelude.{AllPairs, filter}
-use Rattle.std.specs.List.{range_with_len}
-use Rattle.std.proofs.lemmas.List.Elements.{filter-append}
-use Rattle.std.proofs.lemmas.List.FromFn.{get_or-range_with_len, length-range_with_len}
-use Rattle.std.proofs.lemmas.List.Kept.{AllPairs-filter}
+use Rattle.std.proofs.lemmas.List.{Elements.filter-append, FromFn.get_or-range_with_len, FromFn.length-range_with_len, Kept.AllPairs-filter}
+use Rattle.std.specs.{Prelude.AllPairs, Prelude.filter, List.range_with_len}
 use Rattle.list_laws.proofs.Ranges.{range_more}
 use Rattle.text_lines.specs.Lines.{parts_of}
-use Rattle.net_defs.specs.declared.netlist.Netlist.{Netlist}
-use Rattle.net_defs.specs.Steps.{is_listed}
-use Rattle.net_defs.specs.Valid.{Ascends}
-use Rattle.bench_read.specs.GateLists.{gates_of, ascending, Reads}
-use Rattle.bench_read.specs.code.GateLists.{AreMarks, marked}
+use Rattle.net_defs.specs.{declared.netlist.Netlist.Netlist, Steps.is_listed, Valid.Ascends}
+use Rattle.bench_read.specs.{GateLists.gates_of, GateLists.ascending, GateLists.Reads, code.GateLists.AreMarks, code.GateLists.marked}
 
 -- ---- the numbers of those that are marked
 

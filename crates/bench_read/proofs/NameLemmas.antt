@@ -1,15 +1,11 @@
 -- Names that stand once.
 use Rattle.std.proofs.Common.{◌≡◌, ℕ, ◌+◌, ◌<◌, Bool, true, false, not, cond, List, [], ◌∷◌, ◌++◌, length, map, take, get_or, slice_get, Some, inl, inr, sym, ap, ◌∙◌, arith, bytes_eq}
-use Rattle.bench_read.proofs.Common.{count_by, list_any, sum_by-cons, sum_by-append, sum_by_push, count_none, none_counted, AreOnce}
-use Rattle.std.proofs.lemmas.Bool.{cases_Bool}
 use Rattle.std.proofs.lemmas.List.{get_or-take, length-take-le, map_push, take_more}
-use Rattle.std.proofs.lemmas.List.Elements.{All-from_get_or}
-use Rattle.std.proofs.lemmas.List.Folds.{list_any_none}
-use Rattle.std.proofs.lemmas.Option.{get_or_from_slice_get, slice_get-get_or, slice_get_within}
-use Rattle.std.proofs.lemmas.Slice.Eq.{bytes_eq-Decides}
+use Rattle.std.proofs.lemmas.{Bool.cases_Bool, List.Elements.All-from_get_or, List.Folds.list_any_none}
+use Rattle.std.proofs.lemmas.{Option.get_or_from_slice_get, Option.slice_get-get_or, Option.slice_get_within, Slice.Eq.bytes_eq-Decides}
+use Rattle.bench_read.proofs.Common.{count_by, list_any, sum_by-cons, sum_by-append, sum_by_push, count_none, none_counted, AreOnce}
 use Rattle.list_laws.proofs.Tests.{list_any-map}
-use Rattle.net_defs.specs.declared.netlist.Signal.{Signal}
-use Rattle.net_defs.specs.Valid.{NamesDiffer}
+use Rattle.net_defs.specs.{declared.netlist.Signal.Signal, Valid.NamesDiffer}
 
 pub same_name : (a b : List ℕ) → bytes_eq a b ≡ true → a ≡ b
 same_name a b e = grind (arith, bytes_eq-Decides)

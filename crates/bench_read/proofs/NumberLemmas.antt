@@ -1,11 +1,11 @@
 -- The numbers of names, and names in signal order.
 use Rattle.std.proofs.Common.{◌≡◌, ℕ, ◌+◌, ◌<◌, ◌≤◌, true, false, cond, List, [], ◌∷◌, ◌++◌, append_assoc, append-nil, length, get_or, Bool, Some, None, sym, ap, ◌∙◌, subst, refl, arith, bytes_eq, length-append}
-use Rattle.bench_read.proofs.Common.{sum_by, list_any, flat_map, position, range_with_len, map-append, get_or-map, list_any_at, sum_by-append, common_steps, order_by, AreOnce}
 use Rattle.std.proofs.lemmas.List.Quantifiers.{position-Some}
+use Rattle.bench_read.proofs.Common.{sum_by, list_any, flat_map, position, range_with_len, map-append, get_or-map, list_any_at, sum_by-append, common_steps, order_by, AreOnce}
+use Rattle.bench_read.proofs.NameLemmas.{same_name, same_bytes, new_from_once}
 use Rattle.list_laws.proofs.Tests.{first_after, count_none, none_counted, none_past}
 use Rattle.bench_read.specs.Lines.{Line, Input, driven, all_driven}
 use Rattle.bench_read.specs.Netlists.{input_names, other_names, names_of, number, numbers}
-use Rattle.bench_read.proofs.NameLemmas.{same_name, same_bytes, new_from_once}
 
 -- ---- signal order
 

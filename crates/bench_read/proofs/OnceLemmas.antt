@@ -1,25 +1,18 @@
 -- Texts whose lines are blank or name something, each thing once: the loop over the lines, and what a
 -- text without a fault is.
 use Rattle.std.proofs.Common.{◌≡◌, ◌≢◌, ◌⊎◌, ℕ, zero, suc, ◌+◌, ◌<◌, ◌≤◌, Bool, true, false, List, [], ◌∷◌, ◌++◌, length, take, drop, get_or, set, Option, Some, None, Ok, Err, inl, inr, sym, ap, ◌∙◌, subst, refl, arith, append-nil, add-one, eqb, length-append, replicate, ◌||◌}
-use Rattle.std.proofs.Math.Bool.{or-false}
-use Rattle.std.proofs.Math.Seq.{get_or-append_seam}
-use Rattle.std.specs.Prelude.{AllPairs, All}
-use Rattle.std.specs.List.{cons_option, enumerate_from, filter_map, list_any}
-use Rattle.std.proofs.lemmas.Bool.{eq-eqb, or_right}
-use Rattle.std.proofs.lemmas.Bool.Decides.{eqb_tells}
 use Rattle.std.proofs.lemmas.List.{take_more, take_all, get_or_append_left, length-set, get_or-set_same, get_or-set_other, get_or-replicate, length-replicate}
 use Rattle.std.proofs.lemmas.List.Elements.{filter_map-append, All-from_get_or, All-nil, All-cons}
-use Rattle.std.proofs.lemmas.List.Folds.{list_any_at, list_any_none, list_any-append}
-use Rattle.std.proofs.lemmas.List.Quantifiers.{all_pairs_push}
+use Rattle.std.proofs.{Math.Bool.or-false, Math.Seq.get_or-append_seam, lemmas.Bool.eq-eqb, lemmas.Bool.or_right, lemmas.Bool.Decides.eqb_tells}
+use Rattle.std.proofs.lemmas.List.{Folds.list_any_at, Folds.list_any_none, Folds.list_any-append, Quantifiers.all_pairs_push}
+use Rattle.std.specs.List.{cons_option, enumerate_from, filter_map, list_any}
+use Rattle.std.specs.Prelude.{AllPairs, All}
 use Rattle.list_laws.proofs.Places.{split_at}
-use Rattle.text_lines.specs.Answers.{first}
-use Rattle.text_lines.specs.Words.{words_of}
-use Rattle.text_lines.specs.code.Answers.{fault_or}
-use Rattle.text_lines.proofs.FaultLemmas.{fault_or_err, fault_or_ok}
+use Rattle.text_lines.specs.{Answers.first, Words.words_of, code.Answers.fault_or}
 use Rattle.text_lines.proofs.lemmas.AnswerLemmas.{first-zero, first_none, first_none_more, first_some, none_below}
+use Rattle.text_lines.proofs.FaultLemmas.{fault_or_err, fault_or_ok}
 use Rattle.text_lines.proofs.lemmas.LineLemmas.{IsNextLine, next_line, no_next_line}
-use Rattle.bench_read.specs.Once.{is_among, fault_at, first_fault_of}
-use Rattle.bench_read.specs.code.Once.{AreMarksOf}
+use Rattle.bench_read.specs.{Once.is_among, Once.fault_at, Once.first_fault_of, code.Once.AreMarksOf}
 
 -- ---- what a line without a fault is
 

@@ -1,22 +1,17 @@
 -- What is written of a spelling is read as the same marks and names, and a clean text has no fault of its bytes.
 use Rattle.std.proofs.Common.{◌≡◌, ℕ, suc, ◌≤◌, Bool, true, false, not, ◌&&◌, ◌||◌, List, [], ◌∷◌, ◌++◌, length, ap, sym, subst, ◌∙◌, refl, arith, rules, append_assoc, zero, ◌-◌, ◌<◌, take, drop, get_or, take_all, None}
-use Rattle.std.specs.Prelude.{◌==◌}
+use Rattle.std.proofs.lemmas.{Bool.and_parts, Bool.or_right, Bool.cond-false, List.Sums.AllPass-from_list_all, List.Sums.position_or_len_is}
 use Rattle.std.specs.List.{All, flat_map, list_all, prefix_len, before_first}
-use Rattle.std.proofs.lemmas.Bool.{and_parts, or_right, cond-false}
+use Rattle.std.specs.Prelude.{◌==◌}
 use Rattle.bench_read.proofs.Common.{All-head, All-tail, Mark, written_piece, some_of}
 use Rattle.limits.specs.declared.TheConstants.{MAX_NAME_BYTES}
 use Rattle.text_lines.specs.Bytes.{is_visible, is_hash, is_line_feed, is_return, is_blank}
-use Rattle.text_lines.specs.Names.{IsName, is_mark, is_name_byte}
-use Rattle.bench_text.specs.Bytes.{sign_of}
-use Rattle.bench_text.specs.declared.token.Mark.TheVariants.{Comma, Name}
-use Rattle.bench_text.proofs.lemmas.ByteLemmas.{named_byte}
+use Rattle.text_lines.specs.{Names.IsName, Names.is_mark, Names.is_name_byte, Lines.lines_of, Lines.part_of, Places.is_line_end}
 use Rattle.bench_text.specs.Spelling.{Piece, Sign, Word, same_mark, listed}
-use Rattle.bench_text.specs.Rows.{goes_on, pieces_of}
-use Rattle.std.proofs.lemmas.List.Sums.{AllPass-from_list_all, position_or_len_is}
-use Rattle.text_lines.specs.Lines.{lines_of, part_of}
-use Rattle.text_lines.specs.Places.{is_line_end}
-use Rattle.text_lines.proofs.lemmas.AnswerLemmas.{first_none}
 use Rattle.bench_text.specs.Tokens.{name_length, is_bad, fault_at, first_fault}
+use Rattle.bench_text.specs.{Bytes.sign_of, declared.token.Mark.TheVariants.Comma, declared.token.Mark.TheVariants.Name, Rows.goes_on, Rows.pieces_of}
+use Rattle.bench_text.proofs.lemmas.ByteLemmas.{named_byte}
+use Rattle.text_lines.proofs.lemmas.AnswerLemmas.{first_none}
 
 -- ---- bytes
 

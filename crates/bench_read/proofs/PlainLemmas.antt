@@ -4,8 +4,8 @@ use Rattle.std.specs.Prelude.{IfErr, codes}
 use Rattle.bench_read.proofs.Common.{find, option_map, option_or, first, Answers, kind_of, Row, rows_of, form_of, BenchNo, Line, is_word, said_by_register, said_by_gate, said_by, said}
 use Rattle.text_lines.proofs.lemmas.AnswerLemmas.{place_of_first}
 use Rattle.bench_text.specs.declared.token.TextNo.TheVariants as text_no
-use Rattle.bench_text.specs.Tokens.{first_fault as byte_fault}
 use Rattle.bench_text.specs.Forms.{Form, Port, Gate, Memory}
+use Rattle.bench_text.specs.Tokens.{first_fault as byte_fault}
 use Rattle.bench_read.specs.declared.refusal.BenchNo.TheVariants as bench_no
 use Rattle.bench_read.specs.Placed.{Placed, placed_by, placed_of, driven_in, drivers_of, uses_of}
 use Rattle.bench_read.specs.Faults.{is_undriven, repeat_fault, option_repeat_fault, twice_fault, many_fault, line_fault, said_fault, row_fault, rows_fault, uses_fault, of_text, first_fault}

@@ -1,17 +1,13 @@
 -- What a text reads as: the netlist of its lines, where it has no fault.
 use Rattle.std.proofs.Common.{Bool, ◌≡◌, ◌⊎◌, ℕ, true, false, not, List, [], ◌∷◌, Some, None, Result, Ok, Err, sym, ap, ◌∙◌, refl, bytes_eq}
-use Rattle.std.specs.Prelude.{◌↔◌, All}
-use Rattle.bench_read.proofs.Common.{list_any, find, option_map, option_or, All-nil, All-cons, All-head, All-tail, All-map, All-weaker, list_any_none, all_of_map, list_any-map, find_none, any_not_none, mapped_none}
-use Rattle.bench_read.proofs.Common.{Answers, or_none, Row, rows_of, Netlist, BenchNo, Line, all_driven, all_used, Say, Placed, Named, lines_at, placed_of, drivers_of, uses_of, netlist_of}
 use Rattle.std.proofs.lemmas.Bool.{not-false, or_parts}
-use Rattle.bench_text.specs.Tokens.{first_fault as byte_fault}
-use Rattle.bench_read.specs.declared.refusal.BenchNo.TheVariants.{Undriven, Memory}
-use Rattle.bench_read.specs.Faults.{is_undriven, rows_fault, uses_fault, of_text, first_fault}
-use Rattle.bench_read.specs.Reads.{AreAmong, Reads}
-use Rattle.bench_read.proofs.OnlyLemmas.{value_or_fault}
-use Rattle.bench_read.proofs.SaidLemmas.{said_from_says}
-use Rattle.bench_read.proofs.TwiceLemmas.{names_in}
+use Rattle.std.specs.Prelude.{◌↔◌, All}
+use Rattle.bench_read.proofs.Common.{list_any, find, option_map, option_or, All-nil, All-cons, All-head, All-tail, All-map, All-weaker, list_any_none, all_of_map, list_any-map, find_none, any_not_none, mapped_none, Answers, or_none, Row, rows_of, Netlist, BenchNo, Line, all_driven, all_used, Say, Placed, Named, lines_at, placed_of, drivers_of, uses_of, netlist_of}
 use Rattle.bench_read.proofs.RowLemmas.{names_driven, names_used, SaysOne, rows_none}
+use Rattle.bench_read.proofs.{OnlyLemmas.value_or_fault, SaidLemmas.said_from_says, TwiceLemmas.names_in}
+use Rattle.bench_text.specs.Tokens.{first_fault as byte_fault}
+use Rattle.bench_read.specs.Faults.{is_undriven, rows_fault, uses_fault, of_text, first_fault}
+use Rattle.bench_read.specs.{declared.refusal.BenchNo.TheVariants.Undriven, declared.refusal.BenchNo.TheVariants.Memory, Reads.AreAmong, Reads.Reads}
 
 -- ---- what rows say
 

@@ -1,18 +1,14 @@
 -- Lines after one another, and the rows that say them.
 use Rattle.std.proofs.Common.{◌≡◌, ℕ, ◌+◌, ◌≤◌, List, [], ◌∷◌, ◌++◌, append-nil, length, length-append, Some, None, Result, Ok, Err, ap, ◌∙◌, refl, arith}
-use Rattle.std.specs.Prelude.{◌↔◌, All}
-use Rattle.bench_read.proofs.Common.{flat_map, option_or, map-map, map-append, map-id, flat_map-append, sum_by_push, or_none, Row, BenchNo, Line, driven, used, operands, all_driven, all_used, operand_count, Says, said}
-use Rattle.bench_read.proofs.Common.{twice_fault, many_fault, line_fault, said_fault, row_fault, rows_fault, AreOnce}
-use Rattle.std.specs.Result.{result_ok}
-use Rattle.std.proofs.lemmas.Bool.Decides.{nat_tests}
 use Rattle.std.proofs.lemmas.List.Elements.{All-nil, All-push, All-pop, filter_map-append}
+use Rattle.std.proofs.lemmas.Bool.Decides.{nat_tests}
+use Rattle.std.specs.{Prelude.◌↔◌, Prelude.All, Result.result_ok}
+use Rattle.bench_read.proofs.Common.{flat_map, option_or, map-map, map-append, map-id, flat_map-append, sum_by_push, or_none, Row, BenchNo, Line, driven, used, operands, all_driven, all_used, operand_count, Says, said, twice_fault, many_fault, line_fault, said_fault, row_fault, rows_fault, AreOnce}
+use Rattle.bench_read.proofs.{SaidLemmas.says_from_said, SaidLemmas.said_from_says, FirstLemmas.none_where, FirstLemmas.first_push, NameLemmas.once_front}
+use Rattle.bench_read.proofs.TwiceLemmas.{names_in, twice_none}
 use Rattle.limits.specs.declared.TheConstants.{MAX_OPERANDS, MAX_SIGNALS}
 use Rattle.bench_read.specs.Placed.{Placed, said_at, placed_of, each_named, driven_in, drivers_of, uses_of}
 use Rattle.bench_read.specs.code.Placed.{lines_at}
-use Rattle.bench_read.proofs.SaidLemmas.{says_from_said, said_from_says}
-use Rattle.bench_read.proofs.FirstLemmas.{none_where, first_push}
-use Rattle.bench_read.proofs.NameLemmas.{once_front}
-use Rattle.bench_read.proofs.TwiceLemmas.{names_in, twice_none}
 
 -- ---- lines
 

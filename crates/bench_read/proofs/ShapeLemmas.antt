@@ -1,7 +1,7 @@
 -- The canonical text of a netlist is the text of its lines.
 use Rattle.std.proofs.Common.{◌≡◌, ℕ, zero, suc, List, [], ◌∷◌, ◌++◌, slice_get, Option, Some, None, sym, ◌∙◌, refl, append-nil, append_assoc, arith}
-use Rattle.bench_read.proofs.Common.{ne_eqb, codes, flat_map, flat_map-append, Netlist, Block, Driver, Piece, commas, listed, spelled, Line}
 use Rattle.std.proofs.lemmas.List.Folds.{flat_map-map}
+use Rattle.bench_read.proofs.Common.{ne_eqb, codes, flat_map, flat_map-append, Netlist, Block, Driver, Piece, commas, listed, spelled, Line}
 use Rattle.net_defs.specs.declared.netlist.Driver.TheVariants.{Input, Gate, Dff, BlockBit}
 use Rattle.net_defs.specs.Canonical.{name_of, names_of, input_line, output_line, gate_line, memory_line, memory_line_at, driver_line, canonical_text}
 use Rattle.bench_read.specs.Lines as lines

@@ -1,25 +1,15 @@
 -- A text reads as a list of stuck faults exactly where it has no fault.
 use Rattle.std.proofs.Common.{◌≡◌, ◌≢◌, ◌⊎◌, ℕ, ◌+◌, ◌<◌, ◌∙◌, Bool, true, false, cond, List, [], ◌∷◌, length, get_or, Option, Some, None, inl, inr, sym, ap, ap₂, subst, refl, arith, bytes_eq, codes}
+use Rattle.std.proofs.lemmas.{Bool.cond-false, List.length-map, List.Quantifiers.position-Some}
 use Rattle.std.specs.Prelude.{All, AllPairs}
-use Rattle.std.proofs.lemmas.Bool.{cond-false}
-use Rattle.std.proofs.lemmas.List.{length-map}
-use Rattle.std.proofs.lemmas.List.Quantifiers.{position-Some}
-use Rattle.text_lines.specs.Lines.{parts_of}
-use Rattle.text_lines.specs.Words.{words_of}
-use Rattle.logic_four.specs.declared.V4.{V4}
-use Rattle.logic_four.specs.declared.V4.TheVariants.{Zero, One}
-use Rattle.net_defs.specs.declared.faults.Fault.{Fault}
-use Rattle.net_defs.specs.declared.netlist.Netlist.{Netlist}
-use Rattle.net_defs.specs.declared.netlist.Signal.{Signal}
-use Rattle.net_defs.specs.Valid.{IsFault}
-use Rattle.bench_read.specs.declared.refusal.FaultNo.{FaultNo}
-use Rattle.bench_read.specs.declared.refusal.FaultNo.TheVariants.{Twice}
-use Rattle.bench_read.specs.GateLists.{is_name, names_in}
-use Rattle.bench_read.specs.Once.{is_among}
-use Rattle.bench_read.specs.code.StuckLists.{AreStuckMarks}
+use Rattle.text_lines.specs.{Lines.parts_of, Words.words_of}
+use Rattle.logic_four.specs.declared.V4.{V4, TheVariants.Zero, TheVariants.One}
+use Rattle.net_defs.specs.{declared.faults.Fault.Fault, declared.netlist.Netlist.Netlist, declared.netlist.Signal.Signal, Valid.IsFault}
 use Rattle.bench_read.specs.StuckLists.{value_of, value_in, value_after, signal_named, stuck_at, stuck_by, stuck_of, stuck_in, Reads, bit_of, number_of, stuck_fault, value_fault, words_fault, fault_of, first_fault}
-use Rattle.bench_read.proofs.OnlyLemmas.{value_or_fault}
+use Rattle.bench_read.specs.{declared.refusal.FaultNo.FaultNo, declared.refusal.FaultNo.TheVariants.Twice, GateLists.is_name, GateLists.names_in, Once.is_among}
+use Rattle.bench_read.specs.code.StuckLists.{AreStuckMarks}
 use Rattle.bench_read.proofs.OnceLemmas.{IsFine, Differ, named_hold, once_from_none, none_from_once}
+use Rattle.bench_read.proofs.OnlyLemmas.{value_or_fault}
 
 -- ---- one line
 

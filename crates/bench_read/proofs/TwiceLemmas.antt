@@ -1,12 +1,11 @@
 -- Names that lines drive, and those that one drives again.
 use Rattle.std.proofs.Common.{◌≡◌, ℕ, not, Some, refl, false, List, [], ◌∷◌, ◌++◌, append_assoc, append-nil, map, None, sym, ap, ◌∙◌, bytes_eq}
-use Rattle.bench_read.proofs.Common.{◌↔◌, list_any, find, option_map, option_or, map_push, slice_get-map, map-map, list_any-map, prefix_len-map, find_none, any_not_none, mapped_none, first-zero, or_none, BenchNo}
-use Rattle.bench_read.proofs.Common.{DrivenName, Named, named_by, names_by, AreOnce}
 use Rattle.std.proofs.lemmas.List.Folds.{find_at}
-use Rattle.bench_read.specs.declared.refusal.BenchNo.TheVariants.{DrivenTwice}
-use Rattle.bench_read.specs.Faults.{is_same, repeat_fault, option_repeat_fault, twice_fault}
+use Rattle.bench_read.proofs.Common.{◌↔◌, list_any, find, option_map, option_or, map_push, slice_get-map, map-map, list_any-map, prefix_len-map, find_none, any_not_none, mapped_none, first-zero, or_none, BenchNo, DrivenName, Named, named_by, names_by, AreOnce}
 use Rattle.bench_read.proofs.FirstLemmas.{by_push, first_push, first_stays}
 use Rattle.bench_read.proofs.NameLemmas.{once_more, new_from_once, once_front}
+use Rattle.bench_read.specs.Faults.{is_same, repeat_fault, option_repeat_fault, twice_fault}
+use Rattle.bench_read.specs.declared.refusal.BenchNo.TheVariants.{DrivenTwice}
 
 abbrev pub names_in : List Named → List (List ℕ)
 names_in = map (λ named. named.name)

@@ -1,10 +1,10 @@
 -- The names that the lines of a draft drive and use.
 use Rattle.std.proofs.Common.{◌≡◌, ℕ, ◌+◌, ◌-◌, ◌<◌, ◌≤◌, true, false, not, List, [], ◌∷◌, length, take, get_or, Some, None, sym, ap, ◌∙◌, refl, inl, inr, arith, bytes_eq}
-use Rattle.bench_read.proofs.Common.{list_any, BenchNo, Undriven, is_undriven, uses_fault, used, all_driven, all_used, line_of_use}
-use Rattle.std.proofs.lemmas.Bool.{cases_lt, lt-ltb, le-ltb}
 use Rattle.std.proofs.lemmas.List.{take_all, length-map, get_or-map, get_or_append_left, get_or-append_right}
-use Rattle.list_laws.proofs.Tests.{find_first, find_none, none_more, list_any-map}
+use Rattle.std.proofs.lemmas.Bool.{cases_lt, lt-ltb, le-ltb}
+use Rattle.bench_read.proofs.Common.{list_any, BenchNo, Undriven, is_undriven, uses_fault, used, all_driven, all_used, line_of_use}
 use Rattle.bench_read.proofs.RowLemmas.{names_driven, names_used}
+use Rattle.list_laws.proofs.Tests.{find_first, find_none, none_more, list_any-map}
 use Rattle.bench_read.specs.Placed.{Placed, Named, drivers_of, used_in, uses_of}
 use Rattle.bench_read.specs.code.Placed.{lines_at}
 

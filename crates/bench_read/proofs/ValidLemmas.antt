@@ -1,23 +1,20 @@
 -- What a text reads as is a valid netlist.
 use Rattle.std.proofs.Common.{◌≡◌, ℕ, zero, suc, ◌+◌, ◌<◌, ◌≤◌, ◌^◌, true, false, List, [], ◌∷◌, ◌++◌, length, map, take, drop, get_or, slice_get, Some, sym, ap, ◌∙◌, subst, refl, arith, length-append, bytes_eq}
+use Rattle.std.proofs.lemmas.List.FromFn.{length-enumerate_from, get_or-enumerate_from}
 use Rattle.std.specs.List.{All, AllByRecursion, list_any, flat_map, enumerate_from, range_with_len}
-use Rattle.bench_read.proofs.Common.{both_ways, length-map, map-append, length-take-le, take-append-drop, All-nil, All-cons, All-append, All-weaker, All-head, All-tail, All-map, All-from_recursion, slice_get-map}
-use Rattle.bench_read.proofs.Common.{slice_get_within, slice_get-get_or, AllowsOperands, Netlist, Signal, Block, rows_of}
+use Rattle.bench_read.proofs.Common.{both_ways, length-map, map-append, length-take-le, take-append-drop, All-nil, All-cons, All-append, All-weaker, All-head, All-tail, All-map, All-from_recursion, slice_get-map, slice_get_within, slice_get-get_or, AllowsOperands, Netlist, Signal, Block, rows_of}
+use Rattle.bench_read.proofs.NumberLemmas.{names_once, names_length, number_at, numbered}
+use Rattle.bench_read.proofs.MakingLemmas.{counted, IsMaking, making_next, neighbours}
+use Rattle.bench_read.proofs.FairLemmas.{IsFair, lines_fair, few_printed, rows_length}
+use Rattle.bench_read.proofs.{MadeLemmas.signal_names, MadeLemmas.made_operands, WordLemmas.rows_named}
 use Rattle.limits.specs.declared.TheConstants.{MAX_TEXT_BYTES}
-use Rattle.list_laws.proofs.Ranges.{range_at, first_of_range}
-use Rattle.list_laws.proofs.Places.{seam_at, drop_here, inside_at}
+use Rattle.list_laws.proofs.{Ranges.range_at, Ranges.first_of_range, Places.seam_at, Places.drop_here, Places.inside_at}
 use Rattle.list_laws.proofs.Members.{each, all_front, all_back}
 use Rattle.net_defs.specs.declared.netlist.Driver.TheVariants as driver
 use Rattle.net_defs.specs.Valid.{IsName, IsSignal, IsDrivable, IsMemory, is_input, InputsLead, IsValid}
 use Rattle.bench_read.specs.Lines.{Line, Input, Output, Gate, Register, Memory, used, all_driven, all_used}
 use Rattle.bench_read.specs.Netlists.{input_names, names_of, number, numbers, input_signal, bit_signals, signals_by, other_signals, printed_names, memories_by, netlist_of}
 use Rattle.bench_read.specs.Reads.{AreOnce, AreSound, Reads}
-use Rattle.std.proofs.lemmas.List.FromFn.{length-enumerate_from, get_or-enumerate_from}
-use Rattle.bench_read.proofs.NumberLemmas.{names_once, names_length, number_at, numbered}
-use Rattle.bench_read.proofs.MakingLemmas.{counted, IsMaking, making_next, neighbours}
-use Rattle.bench_read.proofs.MadeLemmas.{signal_names, made_operands}
-use Rattle.bench_read.proofs.WordLemmas.{rows_named}
-use Rattle.bench_read.proofs.FairLemmas.{IsFair, lines_fair, few_printed, rows_length}
 
 -- inputs stand before signals that are none
 inputs_lead : (names : List (List ℕ)) (others : List Signal) → All (λ s. is_input s.driver ≡ false) others → InputsLead (map input_signal names ++ others)

@@ -1,19 +1,14 @@
 -- The words of a text without a fault are names.
 use Rattle.std.proofs.Common.{◌≡◌, ℕ, ◌-◌, List, [], ◌∷◌, length, take, drop, None, subst, sym, refl, arith}
+use Rattle.std.proofs.lemmas.List.{length-take, length-drop, Elements.All-map, Elements.All-weaker, Elements.recursion_from_All, Sums.list_all-from_AllPass}
 use Rattle.std.specs.List.{All, AllByRecursion, flat_map}
-use Rattle.std.proofs.lemmas.List.{length-take, length-drop}
-use Rattle.std.proofs.lemmas.List.Elements.{All-map, All-weaker, recursion_from_All}
-use Rattle.std.proofs.lemmas.List.Sums.{list_all-from_AllPass}
 use Rattle.bench_read.proofs.Common.{all_front, all_back, all_of_map, Mark, Piece, Sign, Word}
 use Rattle.text_lines.specs.Names.{is_name_byte, IsName}
 use Rattle.text_lines.proofs.lemmas.AnswerLemmas.{none_below}
 use Rattle.bench_text.specs.declared.token.Mark.TheVariants as mark
-use Rattle.bench_text.specs.declared.token.Token.{Token}
-use Rattle.bench_text.specs.Spans.{AreBytesOf, StandsIn}
-use Rattle.bench_text.specs.Tokens.{fault_at, first_fault, tokens_of}
-use Rattle.bench_text.proofs.lemmas.SpanLemmas.{list_read}
 use Rattle.bench_text.specs.Rows.{Row, rows_of, placed_pieces, piece_of}
-use Rattle.bench_text.proofs.TokenLemmas.{rows_are_tokens}
+use Rattle.bench_text.specs.{declared.token.Token.Token, Spans.AreBytesOf, Spans.StandsIn, Tokens.fault_at, Tokens.first_fault, Tokens.tokens_of}
+use Rattle.bench_text.proofs.{lemmas.SpanLemmas.list_read, TokenLemmas.rows_are_tokens}
 
 -- a piece is a mark, or a word that is a name
 abbrev pub IsNamed : Piece → Type 0

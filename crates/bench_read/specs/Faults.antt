@@ -1,18 +1,14 @@
 -- The first fault of a netlist text, in three passes: of bytes, of lines and of uses.
 use Rattle.std.specs.Prelude.{ℕ, Bool, not, List, [], ◌∷◌, ◌++◌, length, take, map, nat_lt, slice_get, Option, Some, None, Result, Ok, Err, if◌then◌else◌, bytes_eq}
-use Rattle.std.specs.List.{find, list_any}
-use Rattle.std.specs.Option.{option_map, option_or}
+use Rattle.std.specs.{List.find, List.list_any, Option.option_map, Option.option_or}
 use Rattle.limits.specs.declared.TheConstants.{MAX_OPERANDS, MAX_SIGNALS}
 use Rattle.text_lines.specs.Answers.{first}
-use Rattle.bench_text.specs.declared.token.TextNo.{TextNo}
+use Rattle.bench_text.specs.{declared.token.TextNo.TextNo, Tokens.first_fault as byte_fault, Rows.Row, Rows.rows_of}
 use Rattle.bench_text.specs.declared.token.TextNo.TheVariants as text_no
-use Rattle.bench_text.specs.Tokens.{first_fault as byte_fault}
-use Rattle.bench_read.specs.declared.refusal.Many.TheVariants.{Signals, Operands}
-use Rattle.bench_read.specs.declared.refusal.BenchNo.{BenchNo}
 use Rattle.bench_read.specs.declared.refusal.BenchNo.TheVariants.{Text, DrivenTwice, Undriven, TooMany, Memory}
-use Rattle.bench_read.specs.Lines.{Line, all_driven, operand_count}
-use Rattle.bench_text.specs.Rows.{Row, rows_of}
 use Rattle.bench_read.specs.Placed.{Placed, Named, said_at, placed_of, driven_in, drivers_of, uses_of}
+use Rattle.bench_read.specs.declared.refusal.{Many.TheVariants.Signals, Many.TheVariants.Operands, BenchNo.BenchNo}
+use Rattle.bench_read.specs.Lines.{Line, all_driven, operand_count}
 
 -- ---- the second pass: lines
 

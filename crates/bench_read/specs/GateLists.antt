@@ -2,14 +2,9 @@
 use Rattle.std.specs.Prelude.{◌≡◌, ◌≢◌, ℕ, ◌&&◌, ◌⊎◌, Bool, List, [], ◌∷◌, length, map, filter, Option, Some, None, if◌then◌else◌, nat_le, bytes_eq, All, AllPairs}
 use Rattle.std.specs.List.{list_all, filter_map, position, range_with_len}
 use Rattle.limits.specs.declared.TheConstants.{MAX_NAME_BYTES}
-use Rattle.text_lines.specs.Lines.{parts_of}
-use Rattle.text_lines.specs.Names.{is_name_byte}
-use Rattle.text_lines.specs.Words.{words_of}
-use Rattle.net_defs.specs.declared.netlist.Netlist.{Netlist}
-use Rattle.net_defs.specs.Loops.{is_gate}
-use Rattle.net_defs.specs.Steps.{is_listed}
-use Rattle.bench_read.specs.declared.refusal.LastNo.{LastNo}
-use Rattle.bench_read.specs.declared.refusal.LastNo.TheVariants.{Syntax, NoGate, Twice}
+use Rattle.text_lines.specs.{Lines.parts_of, Names.is_name_byte, Words.words_of}
+use Rattle.net_defs.specs.{declared.netlist.Netlist.Netlist, Loops.is_gate, Steps.is_listed}
+use Rattle.bench_read.specs.declared.refusal.LastNo.{LastNo, TheVariants.Syntax, TheVariants.NoGate, TheVariants.Twice}
 use Rattle.bench_read.specs.Once.{first_fault_of}
 
 -- ---- names

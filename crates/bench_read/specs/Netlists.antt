@@ -1,9 +1,7 @@
 -- The netlist that lines make.
 use Rattle.std.specs.Prelude.{ℕ, ◌+◌, List, [], ◌∷◌, ◌++◌, map, bytes_eq}
 use Rattle.std.specs.List.{flat_map, enumerate_from, position_or_len}
-use Rattle.net_defs.specs.declared.netlist.Netlist.{Netlist}
-use Rattle.net_defs.specs.declared.netlist.Signal.{Signal}
-use Rattle.net_defs.specs.declared.netlist.Block.{Block}
+use Rattle.net_defs.specs.declared.netlist.{Netlist.Netlist, Signal.Signal, Block.Block}
 use Rattle.net_defs.specs.declared.netlist.Driver.TheVariants as driver
 use Rattle.bench_read.specs.Lines.{Line, Input, Output, Gate, Register, Memory, driven}
 

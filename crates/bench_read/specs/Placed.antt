@@ -1,11 +1,8 @@
 -- Lines and names with their places.
 use Rattle.std.specs.Prelude.{ℕ, List, map, Result, Ok, Err}
-use Rattle.std.specs.List.{flat_map, filter_map}
-use Rattle.std.specs.Result.{result_ok}
-use Rattle.bench_read.specs.declared.refusal.BenchNo.{BenchNo}
-use Rattle.bench_read.specs.Lines.{Line, driven, used}
+use Rattle.std.specs.{List.flat_map, List.filter_map, Result.result_ok}
+use Rattle.bench_read.specs.{declared.refusal.BenchNo.BenchNo, Lines.Line, Lines.driven, Lines.used, Saying.said}
 use Rattle.bench_text.specs.Rows.{Row}
-use Rattle.bench_read.specs.Saying.{said}
 
 -- a line, with its number in the text
 pub record Placed : Type 0 where

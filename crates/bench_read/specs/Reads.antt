@@ -2,12 +2,10 @@
 use Rattle.std.specs.Prelude.{◌≡◌, ℕ, ◌≤◌, true, List, length, None, All, count_by, bytes_eq}
 use Rattle.std.specs.List.{list_any}
 use Rattle.limits.specs.declared.TheConstants.{MAX_OPERANDS, MAX_SIGNALS}
-use Rattle.bench_text.specs.Tokens.{first_fault as byte_fault}
+use Rattle.bench_text.specs.{Tokens.first_fault as byte_fault, Rows.rows_of}
 use Rattle.net_defs.specs.declared.netlist.Netlist.{Netlist}
 use Rattle.bench_read.specs.Lines.{Line, all_driven, all_used, operand_count}
-use Rattle.bench_text.specs.Rows.{rows_of}
-use Rattle.bench_read.specs.Saying.{Say}
-use Rattle.bench_read.specs.Netlists.{netlist_of}
+use Rattle.bench_read.specs.{Saying.Say, Netlists.netlist_of}
 
 -- no name stands twice
 abbrev pub AreOnce : List (List ℕ) → Type 0

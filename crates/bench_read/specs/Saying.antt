@@ -1,18 +1,13 @@
 -- Which line a row says, or its fault.
 use Rattle.std.specs.Prelude.{◌≡◌, ℕ, List, [], ◌∷◌, length, nat_le, Bool, ◌&&◌, ◌==◌, Option, Some, None, Result, Ok, Err, if◌then◌else◌, codes}
 use Rattle.std.specs.Str.{str_eq_ignore_ascii_case}
-use Rattle.logic_four.specs.declared.Kind.{Kind}
-use Rattle.logic_four.specs.Kinds.{kind_of, allows_operands}
-use Rattle.bench_read.specs.declared.refusal.BenchNo.{BenchNo}
-use Rattle.bench_read.specs.declared.refusal.BenchNo.TheVariants.{Syntax, UnknownKind, Arity}
-use Rattle.limits.specs.declared.TheConstants.{MAX_ADDRESS_BITS, MAX_WORD_BITS}
-use Rattle.bench_text.specs.Forms.{Names, all_of, Form}
-use Rattle.bench_text.specs.Forms as forms
+use Rattle.logic_four.specs.{declared.Kind.Kind, Kinds.kind_of, Kinds.allows_operands}
+use Rattle.bench_read.specs.declared.refusal.BenchNo.{BenchNo, TheVariants.Syntax, TheVariants.UnknownKind, TheVariants.Arity}
 use Rattle.bench_read.specs.Lines.{Line}
+use Rattle.limits.specs.declared.TheConstants.{MAX_ADDRESS_BITS, MAX_WORD_BITS}
+use Rattle.bench_text.specs.{Forms.Names, Forms.all_of, Forms.Form, Spelling.spelled, Rows.Row, Decoding.form_of}
+use Rattle.bench_text.specs.Forms as forms
 use Rattle.bench_read.specs.Lines as lines
-use Rattle.bench_text.specs.Spelling.{spelled}
-use Rattle.bench_text.specs.Rows.{Row}
-use Rattle.bench_text.specs.Decoding.{form_of}
 
 -- whether a memory may have so many address names, data names and outputs
 abbrev pub allows_memory : ℕ → ℕ → ℕ → Bool

@@ -1,16 +1,12 @@
 -- Which stuck faults a list text names, and the first fault of the text.
 use Rattle.std.specs.Prelude.{◌≡◌, ◌≢◌, ℕ, ◌+◌, ◌⊎◌, List, [], ◌∷◌, Option, Some, None, if◌then◌else◌, bytes_eq, codes, All, AllPairs}
 use Rattle.std.specs.List.{filter_map, position}
-use Rattle.text_lines.specs.Lines.{parts_of}
-use Rattle.text_lines.specs.Words.{words_of}
-use Rattle.logic_four.specs.declared.V4.{V4}
+use Rattle.text_lines.specs.{Lines.parts_of, Words.words_of}
 use Rattle.logic_four.specs.declared.V4.TheVariants.{Zero, One, Undef, HighZ}
-use Rattle.net_defs.specs.declared.faults.Fault.{Fault}
-use Rattle.net_defs.specs.declared.netlist.Netlist.{Netlist}
-use Rattle.bench_read.specs.declared.refusal.FaultNo.{FaultNo}
-use Rattle.bench_read.specs.declared.refusal.FaultNo.TheVariants.{Syntax, NoSignal, Twice}
-use Rattle.bench_read.specs.GateLists.{is_name, names_in}
-use Rattle.bench_read.specs.Once.{is_among, first_fault_of}
+use Rattle.logic_four.specs.declared.V4.{V4}
+use Rattle.net_defs.specs.declared.{faults.Fault.Fault, netlist.Netlist.Netlist}
+use Rattle.bench_read.specs.declared.refusal.FaultNo.{FaultNo, TheVariants.Syntax, TheVariants.NoSignal, TheVariants.Twice}
+use Rattle.bench_read.specs.{GateLists.is_name, GateLists.names_in, Once.is_among, Once.first_fault_of}
 
 -- ---- the form of a line
 

@@ -2,18 +2,14 @@
 use Rattle.std.specs.Prelude.{ℕ, List, [], ◌∷◌, ◌++◌, map, Option, Some, None, ◌==◌, if◌then◌else◌, slice_get, codes}
 use Rattle.std.specs.List.{flat_map}
 use Rattle.logic_four.specs.Kinds.{kind_word}
-use Rattle.bench_text.specs.declared.token.Mark.{Mark}
 use Rattle.bench_text.specs.declared.token.Mark.TheVariants.{Open, Close, Comma, Equals, Semi, Left, Right, Name}
-use Rattle.net_defs.specs.declared.netlist.Netlist.{Netlist}
-use Rattle.net_defs.specs.declared.netlist.Signal.{Signal}
-use Rattle.net_defs.specs.declared.netlist.Block.{Block}
-use Rattle.net_defs.specs.declared.netlist.Driver.{Driver}
-use Rattle.net_defs.specs.declared.netlist.Driver.TheVariants as driver
+use Rattle.bench_text.specs.Spelling.{Piece, Sign, Word, spelled}
+use Rattle.bench_text.specs.{declared.token.Mark.Mark, Forms.Names, Forms.Form}
+use Rattle.net_defs.specs.declared.netlist.{Netlist.Netlist, Signal.Signal, Block.Block, Driver.Driver}
 use Rattle.net_defs.specs.Canonical.{name_of}
-use Rattle.bench_text.specs.Forms.{Names, Form}
+use Rattle.net_defs.specs.declared.netlist.Driver.TheVariants as driver
 use Rattle.bench_text.specs.Forms as forms
 use Rattle.bench_read.specs.Lines.{Line, Input, Output, Gate, Register, Memory}
-use Rattle.bench_text.specs.Spelling.{Piece, Sign, Word, spelled}
 
 -- ---- the lines of a netlist
 

@@ -4,9 +4,7 @@ ghost use Rattle.std.specs.Prelude.{◌≡◌, ◌⊎◌, ◌++◌, [], ◌∷�
 ghost use Rattle.std.specs.List.{list_any};
 ghost use Rattle.text_lines.specs.Answers.{Answers};
 ghost use Rattle.bench_read.specs.declared.refusal.BenchNo.TheVariants.{Memory as NoMemory, DrivenTwice};
-ghost use Rattle.bench_read.specs.Placed.{each_named};
-ghost use Rattle.bench_read.specs.Faults.{repeat_fault, twice_fault};
-ghost use Rattle.bench_read.specs.code.Storing.{named_by, names_by};
+ghost use Rattle.bench_read.specs.{Placed.each_named, Faults.repeat_fault, Faults.twice_fault, code.Storing.named_by, code.Storing.names_by};
 
 use crate::draft::DrivenName;
 use crate::names::Names;

@@ -3,16 +3,10 @@
 
 ghost use Rattle.std.specs.Prelude.{◌≡◌, ◌≤◌, ◌⊎◌, ◌↔◌, List as Items, ℕ, Some, None, Ok, length};
 ghost use Rattle.limits.specs.declared.TheConstants.{MAX_TEXT_BYTES};
-ghost use Rattle.net_defs.specs.declared.netlist.Netlist.{Netlist};
-ghost use Rattle.net_defs.specs.Canonical.{canonical_text};
-ghost use Rattle.net_defs.specs.Valid.{IsValid};
+ghost use Rattle.net_defs.specs.{declared.netlist.Netlist.Netlist, Canonical.canonical_text, Valid.IsValid};
 ghost use Rattle.text_lines.specs.Answers.{IsReader};
 ghost use Rattle.bench_text.specs.Rows.{Row};
-ghost use Rattle.bench_read.specs.declared.refusal.BenchNo.{BenchNo};
-ghost use Rattle.bench_read.specs.Faults.{first_fault};
-ghost use Rattle.bench_read.specs.Lines.{Line};
-ghost use Rattle.bench_read.specs.Reads.{Reads};
-ghost use Rattle.bench_read.specs.Saying.{Says, said};
+ghost use Rattle.bench_read.specs.{declared.refusal.BenchNo.BenchNo, Faults.first_fault, Lines.Line, Reads.Reads, Saying.Says, Saying.said};
 ghost use Rattle.bench_read.specs.Written.{lines_of, text_of_lines};
 
 use net_defs::Netlist;

@@ -3,8 +3,7 @@
 ghost use Rattle.std.specs.Prelude.{◌≡◌, map, length, take, drop, slice_index_or, []};
 ghost use Rattle.std.specs.Iterator.{YieldsFirstBy, item_count};
 ghost use Rattle.bench_read.specs.code.Drafts.{driven_count, used_count, line_by, first_name};
-ghost use Rattle.bench_read.specs.code.Drafting.{placed_in};
-ghost use Rattle.bench_read.specs.code.Making.{seen, seen_at};
+ghost use Rattle.bench_read.specs.code.{Drafting.placed_in, Making.seen, Making.seen_at};
 
 use crate::draft::{Act, Draft, DrivenName, Statement};
 use logic_four::Kind;
@@ -47,8 +46,7 @@ pub struct DraftLines<'b, 'a> {
 
 impl<'b, 'a> Model for DraftLines<'b, 'a> {
     ghost use Rattle.std.specs.Prelude.{List as Items, map};
-    ghost use Rattle.bench_read.specs.code.Drafts.{lines_by};
-    ghost use Rattle.bench_read.specs.Placed.{Placed};
+    ghost use Rattle.bench_read.specs.{code.Drafts.lines_by, Placed.Placed};
 
     ghost Value = { Items Placed };
 

@@ -3,10 +3,8 @@
 
 ghost use Rattle.std.specs.Prelude.{◌≡◌, ◌⊎◌, List as Items, ℕ, Some, None};
 ghost use Rattle.text_lines.specs.Answers.{IsReader};
-ghost use Rattle.net_defs.specs.declared.netlist.Netlist.{Netlist};
-ghost use Rattle.net_defs.specs.Valid.{Ascends};
-ghost use Rattle.bench_read.specs.declared.refusal.LastNo.{LastNo};
-ghost use Rattle.bench_read.specs.GateLists.{Reads, first_fault};
+ghost use Rattle.net_defs.specs.{declared.netlist.Netlist.Netlist, Valid.Ascends};
+ghost use Rattle.bench_read.specs.{declared.refusal.LastNo.LastNo, GateLists.Reads, GateLists.first_fault};
 
 /// Each text reads as one list of gates of a netlist at most, and has no fault beside it.
 pub fn reads_as_one()

@@ -1,10 +1,9 @@
 //! One line of the text of a list of gates.
 
 ghost use Rattle.std.specs.Prelude.{◌≡◌, ◌≤◌, List as Items, ℕ, length, IfOk, IfSome};
-ghost use Rattle.limits.specs.declared.TheConstants.{MAX_SIGNALS};
 ghost use Rattle.std.specs.List.{list_all};
-ghost use Rattle.text_lines.specs.code.Answers.{fault_or};
-ghost use Rattle.text_lines.specs.Names.{is_name_byte};
+ghost use Rattle.limits.specs.declared.TheConstants.{MAX_SIGNALS};
+ghost use Rattle.text_lines.specs.{code.Answers.fault_or, Names.is_name_byte};
 ghost use Rattle.net_defs.specs.Valid.{IsSignal};
 ghost use Rattle.bench_read.specs.GateLists.{fault_of, gate_of, gate_named, is_name, names_in};
 ghost use Rattle.bench_read.specs.code.GateLists.{AreMarks};

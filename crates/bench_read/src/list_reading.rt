@@ -2,12 +2,10 @@
 
 ghost use Rattle.std.specs.Prelude.{◌≡◌, ◌≤◌, List as Items, [], ℕ, None, MatchResult, IfOk, OnOk, length, map};
 ghost use Rattle.limits.specs.declared.TheConstants.{MAX_SIGNALS, MAX_TEXT_BYTES};
-ghost use Rattle.text_lines.specs.Answers.{Answers};
-ghost use Rattle.text_lines.specs.Lines.{parts_of};
+ghost use Rattle.text_lines.specs.{Answers.Answers, Lines.parts_of};
 ghost use Rattle.net_defs.specs.Valid.{Ascends, IsValid, NamesDiffer};
-ghost use Rattle.bench_read.specs.declared.refusal.LastNo.TheVariants.{Memory as NoMemory};
 ghost use Rattle.bench_read.specs.GateLists.{Reads, first_fault, gates_of, names_in};
-ghost use Rattle.bench_read.specs.code.GateLists.{AreMarks, marked};
+ghost use Rattle.bench_read.specs.{declared.refusal.LastNo.TheVariants.Memory as NoMemory, code.GateLists.AreMarks, code.GateLists.marked};
 
 use crate::list_line::read_line;
 use crate::names::Names;

@@ -3,11 +3,10 @@
 ghost use Rattle.std.specs.Prelude.{◌≡◌, ◌+◌, ◌<◌, ◌^◌, [], ◌∷◌, ◌++◌, map, drop, length, slice_index, OnOk};
 ghost use Rattle.std.specs.List.{flat_map};
 ghost use Rattle.text_lines.specs.Answers.{Answers};
-ghost use Rattle.bench_read.specs.declared.refusal.BenchNo.TheVariants.{Memory as NoMemory};
-ghost use Rattle.bench_read.specs.Faults.{uses_fault};
-ghost use Rattle.bench_read.specs.code.Making.{seen, with_line, with_memory};
 ghost use Rattle.bench_read.specs.Netlists.{input_names, other_names, names_of, numbers, input_signal, bit_signals, netlist_of};
 ghost use Rattle.bench_read.specs.code.Drafting.{IsWhole, used_names, placed_in, lines_in};
+ghost use Rattle.bench_read.specs.{declared.refusal.BenchNo.TheVariants.Memory as NoMemory, Faults.uses_fault};
+ghost use Rattle.bench_read.specs.code.Making.{seen, with_line, with_memory};
 
 use crate::draft::{Draft, DrivenName};
 use crate::lines::{DraftLine, DraftLines};

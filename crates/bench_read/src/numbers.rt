@@ -3,12 +3,10 @@
 ghost use Rattle.std.specs.Prelude.{◌≡◌, ◌⊎◌, ◌++◌, ◌+◌, ◌≤◌, ◌<◌, ◌^◌, length, get_or, IfOk, OnOk, slice_get};
 ghost use Rattle.std.specs.List.{flat_map, range_with_len};
 ghost use Rattle.text_lines.specs.Answers.{Answers};
-ghost use Rattle.bench_read.specs.declared.refusal.BenchNo.TheVariants.{Memory as NoMemory, Undriven};
 ghost use Rattle.bench_read.specs.code.Drafting.{IsWhole, driven_names, used_names, placed_in, lines_in};
-ghost use Rattle.bench_read.specs.Faults.{uses_fault};
-ghost use Rattle.bench_read.specs.Lines.{used};
-ghost use Rattle.bench_read.specs.code.Making.{seen, order_by, line_of_use};
 ghost use Rattle.bench_read.specs.Netlists.{input_names, other_names, names_of, numbers};
+ghost use Rattle.bench_read.specs.{declared.refusal.BenchNo.TheVariants.Memory as NoMemory, declared.refusal.BenchNo.TheVariants.Undriven, Faults.uses_fault};
+ghost use Rattle.bench_read.specs.{Lines.used, code.Making.seen, code.Making.order_by, code.Making.line_of_use};
 
 use crate::draft::Draft;
 use crate::lines::{DraftLine, DraftLines};

@@ -1,19 +1,14 @@
 //! The reader of netlist texts.
 
 ghost use Rattle.std.specs.Prelude.{◌≡◌, ◌≢◌, ◌≤◌, None, Some, MatchResult, IfErr, length};
-ghost use Rattle.limits.specs.declared.TheConstants.{MAX_TEXT_BYTES};
 ghost use Rattle.std.specs.Option.{option_map};
+ghost use Rattle.limits.specs.declared.TheConstants.{MAX_TEXT_BYTES};
 ghost use Rattle.text_lines.specs.Answers.{Answers};
 ghost use Rattle.net_defs.specs.declared.netlist.Netlist.{Netlist};
 ghost use Rattle.bench_text.specs.declared.token.TextNo.TheVariants as text_no;
-ghost use Rattle.bench_text.specs.Tokens.{first_fault as byte_fault};
+ghost use Rattle.bench_text.specs.{Tokens.first_fault as byte_fault, Rows.rows_of};
 ghost use Rattle.bench_read.specs.declared.refusal.BenchNo.TheVariants.{Memory as NoMemory, Text};
-ghost use Rattle.bench_read.specs.Faults.{of_text, first_fault};
-ghost use Rattle.bench_text.specs.Rows.{rows_of};
-ghost use Rattle.bench_read.specs.Placed.{placed_of};
-ghost use Rattle.bench_read.specs.code.Placed.{lines_at};
-ghost use Rattle.bench_read.specs.Netlists.{netlist_of};
-ghost use Rattle.bench_read.specs.Reads.{Reads};
+ghost use Rattle.bench_read.specs.{Faults.of_text, Faults.first_fault, Placed.placed_of, code.Placed.lines_at, Netlists.netlist_of, Reads.Reads};
 
 use crate::netlist::make_netlist;
 use crate::refusal::{BenchNo, of_text};

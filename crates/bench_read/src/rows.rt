@@ -4,12 +4,9 @@ ghost use Rattle.std.specs.Prelude.{◌≡◌, ◌⊎◌, ◌<◌, ◌≤◌, �
 ghost use Rattle.limits.specs.declared.TheConstants.{MAX_OPERANDS};
 ghost use Rattle.text_lines.specs.Answers.{Answers};
 ghost use Rattle.bench_text.specs.Rows.{Row, row_of, rows_of, rows_in};
-ghost use Rattle.bench_read.specs.declared.refusal.BenchNo.TheVariants.{Memory as NoMemory};
-ghost use Rattle.bench_read.specs.Saying.{said};
-ghost use Rattle.bench_read.specs.Placed.{placed_of};
-ghost use Rattle.bench_read.specs.Faults.{limit_fault, rows_fault};
-ghost use Rattle.bench_read.specs.code.Drafting.{IsDraftOf};
 ghost use Rattle.bench_read.specs.code.Storing.{name_in, names_by, printed_by, operands_by, IsFound, Stores};
+ghost use Rattle.bench_read.specs.{declared.refusal.BenchNo.TheVariants.Memory as NoMemory, Saying.said, Placed.placed_of};
+ghost use Rattle.bench_read.specs.{Faults.limit_fault, Faults.rows_fault, code.Drafting.IsDraftOf};
 ghost use Rattle.bench_read.specs.code.Storing as storing;
 
 use crate::draft::{Act, Draft, Statement};

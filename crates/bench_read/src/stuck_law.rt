@@ -3,11 +3,8 @@
 
 ghost use Rattle.std.specs.Prelude.{◌≡◌, ◌⊎◌, List as Items, ℕ, Some, None, All};
 ghost use Rattle.text_lines.specs.Answers.{IsReader};
-ghost use Rattle.net_defs.specs.declared.faults.Fault.{Fault};
-ghost use Rattle.net_defs.specs.declared.netlist.Netlist.{Netlist};
-ghost use Rattle.net_defs.specs.Valid.{IsFault};
-ghost use Rattle.bench_read.specs.declared.refusal.FaultNo.{FaultNo};
-ghost use Rattle.bench_read.specs.StuckLists.{Reads, first_fault};
+ghost use Rattle.net_defs.specs.{declared.faults.Fault.Fault, declared.netlist.Netlist.Netlist, Valid.IsFault};
+ghost use Rattle.bench_read.specs.{declared.refusal.FaultNo.FaultNo, StuckLists.Reads, StuckLists.first_fault};
 
 /// Each text reads as one list of stuck faults of a netlist at most, and has no fault beside it.
 pub fn reads_as_one()

@@ -4,11 +4,9 @@ ghost use Rattle.std.specs.Prelude.{◌≡◌, ◌⊎◌, ◌+◌, ◌≤◌, �
 ghost use Rattle.limits.specs.declared.TheConstants.{MAX_SIGNALS};
 ghost use Rattle.logic_four.specs.declared.V4.TheVariants.{Zero, One};
 ghost use Rattle.text_lines.specs.code.Answers.{fault_or};
-ghost use Rattle.net_defs.specs.declared.faults.Fault.{Fault as StuckFault};
-ghost use Rattle.net_defs.specs.Valid.{IsFault, IsSignal};
-ghost use Rattle.bench_read.specs.GateLists.{names_in};
+ghost use Rattle.net_defs.specs.{declared.faults.Fault.Fault as StuckFault, Valid.IsFault, Valid.IsSignal};
 ghost use Rattle.bench_read.specs.StuckLists.{fault_of, number_of, signal_named, stuck_at, stuck_of, value_after, value_in, value_of};
-ghost use Rattle.bench_read.specs.code.StuckLists.{AreStuckMarks};
+ghost use Rattle.bench_read.specs.{GateLists.names_in, code.StuckLists.AreStuckMarks};
 
 use crate::list_line::is_name;
 use crate::names::Names;

@@ -2,12 +2,9 @@
 
 ghost use Rattle.std.specs.Prelude.{◌≡◌, ◌≤◌, List as Items, None, MatchResult, IfOk, All, length};
 ghost use Rattle.limits.specs.declared.TheConstants.{MAX_TEXT_BYTES};
-ghost use Rattle.text_lines.specs.Answers.{Answers};
-ghost use Rattle.text_lines.specs.Lines.{parts_of};
-ghost use Rattle.net_defs.specs.declared.faults.Fault.{Fault as StuckFault};
-ghost use Rattle.net_defs.specs.Valid.{IsFault, IsValid};
-ghost use Rattle.bench_read.specs.declared.refusal.FaultNo.TheVariants.{Memory as NoMemory};
-ghost use Rattle.bench_read.specs.GateLists.{names_in};
+ghost use Rattle.text_lines.specs.{Answers.Answers, Lines.parts_of};
+ghost use Rattle.net_defs.specs.{declared.faults.Fault.Fault as StuckFault, Valid.IsFault, Valid.IsValid};
+ghost use Rattle.bench_read.specs.{declared.refusal.FaultNo.TheVariants.Memory as NoMemory, GateLists.names_in};
 ghost use Rattle.bench_read.specs.StuckLists.{Reads, first_fault, stuck_in};
 
 use crate::list_reading::signal_names;

@@ -1,18 +1,13 @@
 -- What is taken off the front of a part, and the pieces of the part.
 use Rattle.std.proofs.Common.{◌≡◌, ℕ, suc, ◌+◌, true, false, List, [], ◌∷◌, length, take, drop, take_all, ◌-◌, ◌≤◌, slice_index, eqb, Some, None, refl, arith, cond}
+use Rattle.std.proofs.lemmas.{List.length-drop, Bool.ne_eqb}
 use Rattle.std.specs.List.{prefix_len, take_while}
-use Rattle.std.proofs.lemmas.List.{length-drop}
-use Rattle.std.proofs.lemmas.Bool.{ne_eqb}
 use Rattle.text_lines.specs.Names.{is_name_byte}
-use Rattle.bench_text.specs.Bytes.{sign_of, class_of}
-use Rattle.bench_text.specs.declared.class.Class.{Class}
+use Rattle.bench_text.specs.{Bytes.sign_of, Bytes.class_of, declared.class.Class.Class, Spelling.Piece, Spelling.Sign, Spelling.Word}
+use Rattle.bench_text.specs.{Rows.goes_on, Rows.pieces_of, declared.token.Mark.Mark, Decoding.take_sign, Decoding.take_word, Decoding.no_more}
+use Rattle.bench_text.specs.code.Parts.{is_filler, without_filler, is_this}
 use Rattle.bench_text.specs.declared.class.Class.TheVariants as class
 use Rattle.bench_text.proofs.lemmas.ByteLemmas.{IsOfClass, class_is, named_byte}
-use Rattle.bench_text.specs.Spelling.{Piece, Sign, Word}
-use Rattle.bench_text.specs.Rows.{goes_on, pieces_of}
-use Rattle.bench_text.specs.declared.token.Mark.{Mark}
-use Rattle.bench_text.specs.Decoding.{take_sign, take_word, no_more}
-use Rattle.bench_text.specs.code.Parts.{is_filler, without_filler, is_this}
 
 -- a name at the front ends where the name bytes do
 pub no_name : (bytes : List ℕ) → goes_on bytes ≡ false → prefix_len is_name_byte bytes ≡ 0

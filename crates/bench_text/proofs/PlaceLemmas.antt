@@ -1,16 +1,12 @@
 -- What a scan finds at a place is the token of the place, or its fault.
 use Rattle.std.proofs.Common.{◌≡◌, ℕ, zero, suc, ◌+◌, ◌-◌, ◌<◌, ◌≤◌, true, false, List, length, drop, get_or, None, Some, sym, ◌∙◌, refl, arith, add-zero}
-use Rattle.std.proofs.lemmas.List.{length-drop, get_or-drop}
-use Rattle.std.proofs.lemmas.List.Sums.{prefix_len-le-length, prefix_len_passes, prefix_len_stops}
-use Rattle.text_lines.specs.Names.{is_name_byte}
+use Rattle.std.proofs.lemmas.List.{length-drop, get_or-drop, Sums.prefix_len-le-length, Sums.prefix_len_passes, Sums.prefix_len_stops}
 use Rattle.text_lines.specs.Places.{stays_in_comment, is_comment, line_at, column_at, is_line_end}
+use Rattle.text_lines.specs.Names.{is_name_byte}
 use Rattle.text_lines.proofs.lemmas.AnswerLemmas.{first_none, first_some}
-use Rattle.bench_text.specs.declared.scan.Scan.{Scan}
-use Rattle.bench_text.specs.declared.token.TextNo.{TextNo}
-use Rattle.bench_text.specs.declared.class.Class.TheVariants.{Name}
-use Rattle.bench_text.specs.Bytes.{class_of}
 use Rattle.bench_text.specs.Tokens.{follows_name, begins_name, name_length, token_at, is_bad, fault_at, first_fault}
 use Rattle.bench_text.specs.code.Scans.{HasPassed, follows_comment, scan_at, scan_after, fault_by, token_by}
+use Rattle.bench_text.specs.{declared.scan.Scan.Scan, declared.token.TextNo.TextNo, declared.class.Class.TheVariants.Name, Bytes.class_of}
 use Rattle.bench_text.proofs.lemmas.ByteLemmas.{class_is, named_byte}
 
 pub is_comment_step : (text : List ℕ) (i : ℕ) → is_comment text i ≡ stays_in_comment (follows_comment text i) (get_or text i 0)

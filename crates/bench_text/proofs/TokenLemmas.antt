@@ -1,26 +1,18 @@
 -- The marks and names of the rows of a text are its tokens.
 use Rattle.std.proofs.Common.{◌||◌, ◌≡◌, ℕ, zero, suc, ◌+◌, ◌-◌, ◌<◌, ◌≤◌, Bool, true, false, cond, ◌&&◌, not, List, [], ◌∷◌, ◌++◌, length, map, take, drop, get_or, Option, Some, None, sym, refl, arith, append-nil, append_assoc, if◌then◌else◌}
-use Rattle.std.specs.Option.{option_to_list}
+use Rattle.std.proofs.lemmas.List.{map-append, drop_more, drop_all, Sums.take_while-cons}
 use Rattle.std.specs.List.{take_while, flat_map, enumerate_from, onto_first}
-use Rattle.std.specs.Str.Lines.{strip_carriage_return}
-use Rattle.std.proofs.lemmas.List.{map-append, drop_more, drop_all}
-use Rattle.std.proofs.lemmas.List.Sums.{take_while-cons}
-use Rattle.text_lines.specs.Bytes.{is_line_feed, is_hash}
-use Rattle.text_lines.specs.Names.{is_name_byte}
-use Rattle.text_lines.specs.Lines.{lines_of, part_of, parts_of}
+use Rattle.std.specs.{Option.option_to_list, Str.Lines.strip_carriage_return}
+use Rattle.text_lines.specs.{Bytes.is_line_feed, Bytes.is_hash, Names.is_name_byte, Lines.lines_of, Lines.part_of, Lines.parts_of}
 use Rattle.text_lines.specs.Places.{stays_in_comment, line_at}
-use Rattle.bench_text.specs.declared.class.Class.{Class}
-use Rattle.bench_text.specs.declared.class.Class.TheVariants as class
-use Rattle.bench_text.specs.declared.token.Mark.{Mark}
-use Rattle.bench_text.specs.declared.token.Mark.TheVariants as mark
-use Rattle.bench_text.specs.Bytes.{sign_of, class_of}
-use Rattle.bench_text.specs.code.Scans.{follows_comment, scan_at, token_by}
 use Rattle.bench_text.specs.Tokens.{follows_name, name_length, tokens_before, tokens_of}
-use Rattle.bench_text.proofs.lemmas.ByteLemmas.{IsOfClass, class_is, named_byte}
-use Rattle.bench_text.proofs.PlaceLemmas.{is_comment_step, place_is}
-use Rattle.bench_text.specs.Spelling.{Piece, Sign, Word}
 use Rattle.bench_text.specs.Rows.{Row, goes_on, onto_pieces, pieces_of, is_some, rows_in, rows_of, placed_pieces, piece_of}
-use Rattle.bench_text.proofs.PartLemmas.{no_name}
+use Rattle.bench_text.specs.{declared.class.Class.Class, declared.token.Mark.Mark, Bytes.sign_of, Bytes.class_of}
+use Rattle.bench_text.specs.{code.Scans.follows_comment, code.Scans.scan_at, code.Scans.token_by, Spelling.Piece, Spelling.Sign, Spelling.Word}
+use Rattle.bench_text.specs.declared.class.Class.TheVariants as class
+use Rattle.bench_text.specs.declared.token.Mark.TheVariants as mark
+use Rattle.bench_text.proofs.lemmas.ByteLemmas.{IsOfClass, class_is, named_byte}
+use Rattle.bench_text.proofs.{PlaceLemmas.is_comment_step, PlaceLemmas.place_is, PartLemmas.no_name}
 
 abbrev name_at : List ℕ → List ℕ
 name_at bytes = take_while is_name_byte bytes

@@ -2,10 +2,9 @@
 use Rattle.std.specs.Prelude.{ℕ, ◌==◌, Option, Some, None, if◌then◌else◌}
 use Rattle.text_lines.specs.Bytes.{is_line_feed, is_return, is_hash, is_blank}
 use Rattle.text_lines.specs.Names.{is_name_byte}
-use Rattle.bench_text.specs.declared.class.Class.{Class}
 use Rattle.bench_text.specs.declared.class.Class.TheVariants.{Name, Sign, Blank, Feed, Return, Hash, Bad}
-use Rattle.bench_text.specs.declared.token.Mark.{Mark}
 use Rattle.bench_text.specs.declared.token.Mark.TheVariants.{Open, Close, Comma, Equals, Semi, Left, Right}
+use Rattle.bench_text.specs.declared.{class.Class.Class, token.Mark.Mark}
 
 -- the mark of a byte that is a token by itself
 unfoldable pub sign_of : ℕ → Option Mark

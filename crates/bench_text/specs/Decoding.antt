@@ -2,10 +2,10 @@
 -- the front. That this is right is a law.
 use Rattle.std.specs.Prelude.{ℕ, Bool, true, false, List, [], ◌∷◌, Option, Some, None, if◌then◌else◌}
 use Rattle.std.specs.Option.{option_map, option_and_then}
-use Rattle.bench_text.specs.declared.token.Mark.{Mark}
 use Rattle.bench_text.specs.declared.token.Mark.TheVariants.{Open, Close, Comma, Equals, Semi, Left, Right}
 use Rattle.bench_text.specs.Forms.{Names, Form, Port, Gate, Memory}
 use Rattle.bench_text.specs.Spelling.{Piece, Sign, Word, same_mark}
+use Rattle.bench_text.specs.declared.token.Mark.{Mark}
 
 infixl 10 ◌>>=◌
 abbrev pub ◌>>=◌ : {A B : Type 0} → Option A → (A → Option B) → Option B

@@ -1,9 +1,8 @@
 -- What a reader of a line's form finds.
 use Rattle.std.specs.Prelude.{◌≡◌, ℕ, ◌≤◌, List, ◌∷◌, ◌++◌, length, Option, Some, None}
 use Rattle.limits.specs.declared.TheConstants.{MAX_GATE_OPERANDS}
-use Rattle.bench_text.specs.declared.form.Head.{Head}
+use Rattle.bench_text.specs.{declared.form.Head.Head, Forms.Names, Forms.all_of, Forms.Form}
 use Rattle.bench_text.specs.declared.form.Head.TheVariants as head
-use Rattle.bench_text.specs.Forms.{Names, all_of, Form}
 use Rattle.bench_text.specs.Forms as forms
 
 -- names were counted, and added to a list where they are not more than the widest gate may have

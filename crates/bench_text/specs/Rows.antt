@@ -1,12 +1,8 @@
 -- The rows of a netlist text: the marks and names of each of its lines that has any.
 use Rattle.std.specs.Prelude.{ℕ, Bool, true, false, List, [], ◌∷◌, map, filter, slice_range, Option, Some, None, if◌then◌else◌}
 use Rattle.std.specs.List.{enumerate_from}
-use Rattle.text_lines.specs.Lines.{parts_of}
-use Rattle.text_lines.specs.Names.{is_name_byte}
-use Rattle.bench_text.specs.declared.token.Mark.{Mark}
-use Rattle.bench_text.specs.declared.token.Mark.TheVariants.{Name}
-use Rattle.bench_text.specs.declared.token.Token.{Token}
-use Rattle.bench_text.specs.Bytes.{sign_of}
+use Rattle.text_lines.specs.{Lines.parts_of, Names.is_name_byte}
+use Rattle.bench_text.specs.{declared.token.Mark.Mark, declared.token.Mark.TheVariants.Name, declared.token.Token.Token, Bytes.sign_of}
 use Rattle.bench_text.specs.Spelling.{Piece, Sign, Word}
 
 -- whether a name goes on with the first of these bytes

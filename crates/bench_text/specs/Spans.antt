@@ -2,12 +2,9 @@
 use Rattle.std.specs.Prelude.{◌≡◌, ℕ, ◌+◌, ◌-◌, ◌<◌, ◌≤◌, false, List, length, slice_index, slice_range, codes}
 use Rattle.std.specs.List.{Any, AllPass}
 use Rattle.limits.specs.declared.TheConstants.{MAX_NAME_BYTES}
-use Rattle.text_lines.specs.Bytes.{is_blank}
-use Rattle.text_lines.specs.Places.{is_comment, line_at, is_line_end}
-use Rattle.bench_text.specs.declared.token.Mark.{Mark}
+use Rattle.text_lines.specs.{Bytes.is_blank, Places.is_comment, Places.line_at, Places.is_line_end, Names.is_name_byte}
 use Rattle.bench_text.specs.declared.token.Mark.TheVariants.{Open, Close, Comma, Equals, Semi, Left, Right, Name}
-use Rattle.bench_text.specs.declared.token.Token.{Token}
-use Rattle.text_lines.specs.Names.{is_name_byte}
+use Rattle.bench_text.specs.declared.token.{Mark.Mark, Token.Token}
 
 -- A name stands from one place up to another: name bytes, at most 255 of them, and no name byte just
 -- before or just after them.

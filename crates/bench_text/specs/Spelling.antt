@@ -1,8 +1,7 @@
 -- The spelling of a line: the marks and names that stand in it, from left to right.
 use Rattle.std.specs.Prelude.{ℕ, Bool, true, false, List, [], ◌∷◌, ◌++◌}
-use Rattle.bench_text.specs.declared.token.Mark.{Mark}
 use Rattle.bench_text.specs.declared.token.Mark.TheVariants.{Open, Close, Comma, Equals, Semi, Left, Right, Name}
-use Rattle.bench_text.specs.Forms.{Names, Form}
+use Rattle.bench_text.specs.{declared.token.Mark.Mark, Forms.Names, Forms.Form}
 use Rattle.bench_text.specs.Forms as forms
 
 -- a mark, or a name

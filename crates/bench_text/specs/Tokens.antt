@@ -1,18 +1,11 @@
 -- The tokens of a netlist text and its first fault, each said of a place of the text.
 use Rattle.std.specs.Prelude.{ℕ, zero, suc, ◌+◌, Bool, false, ◌&&◌, not, List, [], ◌++◌, length, drop, slice_index, Option, Some, None, if◌then◌else◌, nat_lt}
-use Rattle.std.specs.Option.{option_to_list}
-use Rattle.std.specs.List.{prefix_len}
+use Rattle.std.specs.{Option.option_to_list, List.prefix_len}
 use Rattle.limits.specs.declared.TheConstants.{MAX_NAME_BYTES}
-use Rattle.text_lines.specs.Bytes.{is_visible, is_blank}
 use Rattle.text_lines.specs.Places.{is_comment, line_at, column_at, is_line_end}
-use Rattle.text_lines.specs.Answers.{first}
-use Rattle.bench_text.specs.declared.token.Mark.{Mark}
-use Rattle.bench_text.specs.declared.token.Mark.TheVariants.{Name}
-use Rattle.bench_text.specs.declared.token.Token.{Token}
-use Rattle.bench_text.specs.declared.token.TextNo.{TextNo}
-use Rattle.bench_text.specs.declared.token.TextNo.TheVariants.{BadByte, LongName}
-use Rattle.text_lines.specs.Names.{is_name_byte}
-use Rattle.bench_text.specs.Bytes.{sign_of}
+use Rattle.text_lines.specs.{Bytes.is_visible, Bytes.is_blank, Answers.first, Names.is_name_byte}
+use Rattle.bench_text.specs.declared.token.{Mark.Mark, Mark.TheVariants.Name, Token.Token, TextNo.TextNo}
+use Rattle.bench_text.specs.{declared.token.TextNo.TheVariants.BadByte, declared.token.TextNo.TheVariants.LongName, Bytes.sign_of}
 
 -- whether the byte just before a place is a name byte
 abbrev pub follows_name : List ℕ → ℕ → Bool

@@ -2,8 +2,7 @@
 
 ghost use Rattle.std.specs.Prelude.{◌≡◌, ℕ, List as Items, map, IfOk};
 ghost use Rattle.std.specs.Option.{option_map};
-ghost use Rattle.bench_text.specs.Rows.{pieces_of};
-ghost use Rattle.bench_text.specs.Heads.{FoundForm};
+ghost use Rattle.bench_text.specs.{Rows.pieces_of, Heads.FoundForm};
 ghost use Rattle.bench_text.specs.Decoding as steps;
 
 use crate::Mark;

@@ -2,10 +2,7 @@
 
 ghost use Rattle.std.specs.Prelude.{◌≡◌, ◌≢◌, ◌↔◌, ℕ, List as Items, map, None, Some};
 ghost use Rattle.std.specs.List.{flat_map};
-ghost use Rattle.bench_text.specs.Tokens.{tokens_of};
-ghost use Rattle.bench_text.specs.Forms.{Form};
-ghost use Rattle.bench_text.specs.Spelling.{Piece, spelled};
-ghost use Rattle.bench_text.specs.Decoding.{form_of};
+ghost use Rattle.bench_text.specs.{Tokens.tokens_of, Forms.Form, Spelling.Piece, Spelling.spelled, Decoding.form_of};
 ghost use Rattle.bench_text.specs.Rows.{rows_of, placed_pieces, piece_of};
 
 /// The decoder finds the form that marks and names spell, and no other, and none exactly where they spell none.

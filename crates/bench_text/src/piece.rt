@@ -1,12 +1,10 @@
 //! The marks and names of a line, one taken off the front after another.
 
 ghost use Rattle.std.specs.Prelude.{◌≡◌, ◌≤◌, length, drop};
-ghost use Rattle.std.specs.List.{prefix_len};
-ghost use Rattle.std.specs.Option.{option_map};
+ghost use Rattle.std.specs.{List.prefix_len, Option.option_map};
 ghost use Rattle.text_lines.specs.Names.{is_name_byte as is_name};
 ghost use Rattle.bench_text.specs.Bytes as byte_specs;
-ghost use Rattle.bench_text.specs.Rows.{pieces_of};
-ghost use Rattle.bench_text.specs.code.Parts.{without_filler};
+ghost use Rattle.bench_text.specs.{Rows.pieces_of, code.Parts.without_filler};
 ghost use Rattle.bench_text.specs.code.Parts as specs;
 ghost use Rattle.bench_text.specs.Decoding as steps;
 

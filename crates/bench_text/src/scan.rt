@@ -1,17 +1,14 @@
 //! The scanner: one pass over the bytes of a text, with the tokens in a list.
 
 ghost use Rattle.std.specs.Prelude.{◌≡◌, ◌≤◌, ◌<◌, ◌+◌, ◌^◌, ◌↔◌, ℕ, None, Some, slice_index, length, All, AllPairs, IfOk, OnOk, MatchResult, ◌++◌};
+ghost use Rattle.std.specs.{Option.option_to_list, List.prefix_len};
 ghost use Rattle.limits.specs.declared.TheConstants.{MAX_TEXT_BYTES};
-ghost use Rattle.std.specs.Option.{option_to_list};
-ghost use Rattle.std.specs.List.{prefix_len};
-ghost use Rattle.text_lines.specs.Answers.{Answers};
-ghost use Rattle.text_lines.specs.Names.{is_name_byte as is_name};
-ghost use Rattle.bench_text.specs.declared.class.Class.TheVariants.{Name as NameByte};
-ghost use Rattle.bench_text.specs.Bytes as byte_specs;
+ghost use Rattle.text_lines.specs.{Answers.Answers, Names.is_name_byte as is_name};
 ghost use Rattle.bench_text.specs.Tokens.{tokens_of, first_fault, fault_at, name_length};
 ghost use Rattle.bench_text.specs.Spans.{StandsIn, IsBefore, IsCovered, IsRead};
 ghost use Rattle.bench_text.specs.code.Scans.{HasPassed, scan_at, scan_after, fault_of_name, fault_by, token_by, ends_line_after};
-ghost use Rattle.bench_text.specs.declared.token.TextNo.TheVariants.{Memory as NoMemory};
+ghost use Rattle.bench_text.specs.declared.{class.Class.TheVariants.Name as NameByte, token.TextNo.TheVariants.Memory as NoMemory};
+ghost use Rattle.bench_text.specs.Bytes as byte_specs;
 
 use crate::class::{Class, class_of, is_name_byte};
 use crate::token::{Mark, TextNo, Token, Tokens};

@@ -3,8 +3,7 @@
 ghost use Rattle.std.specs.Prelude.{◌≡◌, ◌<◌, ◌∷◌, [], ◌++◌, map, IfOk, OnOk};
 ghost use Rattle.std.specs.Option.{option_map};
 ghost use Rattle.limits.specs.declared.TheConstants.{MAX_GATE_OPERANDS as MOST_NAMES};
-ghost use Rattle.bench_text.specs.Rows.{pieces_of};
-ghost use Rattle.bench_text.specs.code.Taking.{TookNames};
+ghost use Rattle.bench_text.specs.{Rows.pieces_of, code.Taking.TookNames};
 ghost use Rattle.bench_text.specs.Decoding as steps;
 
 use crate::Mark;

@@ -1,18 +1,9 @@
 -- An image that matches the items of a netlist.
 use Rattle.std.proofs.Common.{◌≡◌, ◌∙◌, ℕ, List, length, Some, slice_get, arith}
-use Rattle.net_defs.specs.declared.netlist.Netlist.{Netlist}
-use Rattle.net_defs.specs.declared.timing.Timing.{Timing}
-use Rattle.net_defs.specs.declared.stimulus.Stimulus.{Stimulus}
-use Rattle.image_defs.specs.declared.image.Image.{Image}
-use Rattle.net_defs.specs.Valid.{input_count}
-use Rattle.node_defs.specs.declared.items.NodeNet.{NodeNet}
-use Rattle.node_defs.specs.Order.{AreItems}
-use Rattle.node_defs.specs.WellFormed.{column_count}
+use Rattle.net_defs.specs.{declared.netlist.Netlist.Netlist, declared.timing.Timing.Timing, declared.stimulus.Stimulus.Stimulus, Valid.input_count}
+use Rattle.image_defs.specs.{declared.image.Image.Image, declared.image.PortImage.PortImage, Places.host_of, WellFormed.IsWellFormed, Matches.Matches}
+use Rattle.node_defs.specs.{declared.items.NodeNet.NodeNet, Order.AreItems, WellFormed.column_count}
 use Rattle.node_defs.proofs.lemmas.MemberLemmas.{member_at}
-use Rattle.image_defs.specs.declared.image.PortImage.{PortImage}
-use Rattle.image_defs.specs.Places.{host_of}
-use Rattle.image_defs.specs.WellFormed.{IsWellFormed}
-use Rattle.image_defs.specs.Matches.{Matches}
 use Rattle.port_host.specs.Rows.{printed_sources}
 use Rattle.yse_compile.specs.Compiled.{ShowsReference}
 use Rattle.call_steps.specs.Images.{IsImageOf}

@@ -1,17 +1,13 @@
 -- Steps of a call, one after the other: each begins its files, and what it lets pass goes on.
 use Rattle.std.proofs.Common.{◌≡◌, sym, refl, subst, inl, inr, ℕ, Bool, List, [], ◌∷◌, ◌++◌, Option, Some, None, Result, Ok, Err}
-use Rattle.std.specs.Result.{IfOk, IsErrAnd}
 use Rattle.std.proofs.lemmas.List.{append_assoc}
+use Rattle.std.specs.Result.{IfOk, IsErrAnd}
 use Rattle.edge_io.specs.declared.counts.FileCounts.{FileCounts}
 use Rattle.refusals.specs.declared.refusal.Refusal.{Refusal}
-use Rattle.call_steps.specs.Checks.{After, AfterFile, Refuses}
-use Rattle.call_steps.specs.Outcome.{Outcome}
 use Rattle.call_steps.specs.Passing.{Continuation, Never, Only, Passes, Steps}
-use Rattle.call_steps.specs.Readings.{Reading, AreReadings}
-use Rattle.call_steps.specs.code.Texts.{AnswersText, GivesText}
-use Rattle.call_steps.specs.Refused.{Satisfies, refused_of}
-use Rattle.call_steps.proofs.lemmas.ReadingLemmas.{no_readings, readings_both}
-use Rattle.call_steps.proofs.lemmas.WeakerLemmas.{Implies}
+use Rattle.call_steps.specs.{Checks.After, Checks.AfterFile, Checks.Refuses, Outcome.Outcome, Readings.Reading, Readings.AreReadings}
+use Rattle.call_steps.specs.{code.Texts.AnswersText, code.Texts.GivesText, Refused.Satisfies, Refused.refused_of}
+use Rattle.call_steps.proofs.lemmas.{ReadingLemmas.no_readings, ReadingLemmas.readings_both, WeakerLemmas.Implies}
 
 -- what is met after this value alone
 pub only_so : {X : Type 0} (x : X) (rest : List Reading) (outcome : Outcome) (Next : Continuation X) → Next x rest outcome → (y : X) → Implies (Only x rest outcome y) (Next y)

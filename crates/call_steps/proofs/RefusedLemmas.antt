@@ -1,10 +1,8 @@
 -- A text that is refused has the fault, or there was no memory to read it.
 use Rattle.std.proofs.Common.{◌≡◌, ◌⊎◌, inl, inr, ℕ, List, Some, refl, ap}
-use Rattle.bench_read.specs.declared.refusal.BenchNo.{BenchNo}
+use Rattle.bench_read.specs.declared.refusal.{BenchNo.BenchNo, LastNo.LastNo, FaultNo.FaultNo}
 use Rattle.bench_read.specs.declared.refusal.BenchNo.TheVariants as bench_no
-use Rattle.bench_read.specs.declared.refusal.LastNo.{LastNo}
 use Rattle.bench_read.specs.declared.refusal.LastNo.TheVariants as last_no
-use Rattle.bench_read.specs.declared.refusal.FaultNo.{FaultNo}
 use Rattle.bench_read.specs.declared.refusal.FaultNo.TheVariants as fault_no
 use Rattle.bench_read.specs.Faults as bench
 use Rattle.bench_read.specs.StuckLists as stuck_lists
@@ -12,25 +10,19 @@ use Rattle.bench_read.specs.GateLists as gate_lists
 use Rattle.image_file.specs.declared.refusal.ImageNo.{ImageNo}
 use Rattle.image_file.specs.declared.refusal.ImageNo.TheVariants as image_no
 use Rattle.image_file.specs.Reading as image_texts
-use Rattle.machine_text.specs.declared.machine.MachNo.{MachNo}
+use Rattle.machine_text.specs.{declared.machine.MachNo.MachNo, declared.machine.Machine.Machine, Machines.first_fault, Machines.ports_of}
 use Rattle.machine_text.specs.declared.machine.MachNo.TheVariants as mach_no
-use Rattle.machine_text.specs.declared.machine.Machine.{Machine}
-use Rattle.machine_text.specs.Machines.{first_fault, ports_of}
-use Rattle.net_defs.specs.declared.netlist.Netlist.{Netlist}
-use Rattle.net_defs.specs.Valid.{input_count}
+use Rattle.net_defs.specs.{declared.netlist.Netlist.Netlist, Valid.input_count}
 use Rattle.refusals.specs.Refusals.{of_faults, of_image, of_lanes, of_list, of_machine, of_netlist, of_order, of_stimulus}
-use Rattle.stim_text.specs.declared.refusal.LaneNo.{LaneNo}
+use Rattle.stim_text.specs.declared.refusal.{LaneNo.LaneNo, OrderNo.OrderNo, StimNo.StimNo}
 use Rattle.stim_text.specs.declared.refusal.LaneNo.TheVariants as lane_no
-use Rattle.stim_text.specs.declared.refusal.OrderNo.{OrderNo}
 use Rattle.stim_text.specs.declared.refusal.OrderNo.TheVariants as order_no
-use Rattle.stim_text.specs.declared.refusal.StimNo.{StimNo}
 use Rattle.stim_text.specs.declared.refusal.StimNo.TheVariants as stim_no
 use Rattle.stim_text.specs.LaneTexts as lane_texts
 use Rattle.stim_text.specs.Orders as orders
 use Rattle.stim_text.specs.Stimuli as stim
 use Rattle.call_steps.specs.Checks.{IsFaultListOf, IsLanesOf, IsListOf, IsMachineOf, IsNetlistOf, IsOrderOf, IsStimulusOf, Refuses}
-use Rattle.call_steps.specs.Images.{IsImageFileOf}
-use Rattle.call_steps.specs.Refused.{refused_of}
+use Rattle.call_steps.specs.{Images.IsImageFileOf, Refused.refused_of}
 
 pub machine_refused : (text : List ℕ) (why : MachNo) → (why ≡ mach_no.Memory) ⊎ (first_fault text ≡ Some why) → Refuses (IsMachineOf text) (refused_of (of_machine why))
 machine_refused text why (inl same) = inr (ap (λ w. refused_of (of_machine w)) same)

@@ -1,18 +1,12 @@
 -- Sizes that are counted without passing the end of a number.
 use Rattle.std.proofs.Common.{◌≡◌, ◌∙◌, refl, ap, ℕ, zero, suc, ◌+◌, ◌*◌, ◌^◌, ◌<◌, ◌≤◌, List, [], ◌∷◌, length, take, get_or, Some, slice_get, arith}
-use Rattle.std.specs.Prelude.{max}
-use Rattle.std.specs.List.{fold, sum_by}
-use Rattle.std.proofs.Math.Nat.{pow-le-pow_right, mul-le-mul}
-use Rattle.std.proofs.lemmas.Option.{slice_get_read}
+use Rattle.std.proofs.{Math.Nat.pow-le-pow_right, Math.Nat.mul-le-mul, lemmas.Option.slice_get_read}
 use Rattle.std.proofs.lemmas.List.Sums.{sum_by-cons, sum_by_more_le}
+use Rattle.std.specs.{Prelude.max, List.fold, List.sum_by}
 use Rattle.limits.specs.declared.TheConstants.{MAX_ADDRESS_BITS, MAX_CYCLES, MAX_WORD_BITS}
-use Rattle.net_defs.specs.declared.netlist.Block.{Block}
-use Rattle.net_defs.specs.declared.netlist.Netlist.{Netlist}
-use Rattle.net_defs.specs.declared.stimulus.Stimulus.{Stimulus}
-use Rattle.net_defs.specs.Time.{cycle_count}
+use Rattle.net_defs.specs.{declared.netlist.Block.Block, declared.netlist.Netlist.Netlist, declared.stimulus.Stimulus.Stimulus, Time.cycle_count}
 use Rattle.net_defs.specs.Valid.{IsValid, IsValidStimulus, memory_operand_count}
-use Rattle.stim_text.specs.declared.lanes.Lanes.{Lanes}
-use Rattle.stim_text.specs.Lanes.{longest}
+use Rattle.stim_text.specs.{declared.lanes.Lanes.Lanes, Lanes.longest}
 use Rattle.call_steps.specs.Checks.{block_bits}
 
 -- ---- the cycles of lanes

@@ -1,21 +1,12 @@
 -- What the reading of a whole file says of its text.
 use Rattle.std.proofs.Common.{◌≡◌, ◌∙◌, sym, ap, refl, inl, inr, ℕ, suc, ◌<◌, ◌≤◌, Bool, true, false, List, [], ◌∷◌, length, replicate, IsTrue, Option, None, Some, Result, Ok, Err, arith}
-use Rattle.std.proofs.lemmas.Bool.{le-leb, lt-leb}
-use Rattle.std.proofs.lemmas.List.{length-replicate}
+use Rattle.std.proofs.lemmas.{Bool.le-leb, Bool.lt-leb, List.length-replicate}
 use Rattle.limits.specs.declared.TheConstants.{MAX_TEXT_BYTES}
-use Rattle.edge_io.specs.FileCounts.{CountsFile}
-use Rattle.edge_io.specs.Names.{is_absent, IsAbsent, OfTold}
-use Rattle.edge_io.specs.declared.counts.FileCounts.{FileCounts}
+use Rattle.edge_io.specs.{FileCounts.CountsFile, Names.is_absent, Names.IsAbsent, Names.OfTold, declared.counts.FileCounts.FileCounts}
 use Rattle.edge_io.specs.declared.reading.ReadNo.{ReadNo}
 use Rattle.edge_io.specs.declared.reading.ReadNo.TheVariants as no
-use Rattle.refusals.specs.declared.refusal.Refusal.{Refusal}
-use Rattle.refusals.specs.declared.status.Status.TheVariants.{Limit}
-use Rattle.call_steps.specs.Checks.{text_of}
-use Rattle.refusals.specs.Lines.{too_long_line}
-use Rattle.call_steps.specs.Outcome.{refusal, out_of_memory}
-use Rattle.call_steps.specs.Readings.{AreReadings}
-use Rattle.call_steps.specs.code.Texts.{GivesText}
-use Rattle.call_steps.specs.Refused.{refused_of}
+use Rattle.refusals.specs.{declared.refusal.Refusal.Refusal, declared.status.Status.TheVariants.Limit, Lines.too_long_line}
+use Rattle.call_steps.specs.{Checks.text_of, Outcome.refusal, Outcome.out_of_memory, Readings.AreReadings, code.Texts.GivesText, Refused.refused_of}
 use Rattle.call_steps.proofs.lemmas.ReadingLemmas.{one_reading}
 
 -- the text of a file of at most so many bytes, and the refusal of a longer one

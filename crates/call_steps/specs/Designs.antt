@@ -1,17 +1,10 @@
 -- Designs that are ready to run.
 use Rattle.std.specs.Prelude.{◌≡◌}
-use Rattle.machine_text.specs.declared.machine.Machine.{Machine}
-use Rattle.machine_text.specs.Machines.{IsValid as IsValidMachine}
-use Rattle.net_defs.specs.declared.homes.HomeChoice.{HomeChoice}
-use Rattle.net_defs.specs.declared.netlist.Netlist.{Netlist}
-use Rattle.net_defs.specs.declared.stimulus.Stimulus.{Stimulus}
-use Rattle.net_defs.specs.declared.timing.Timing.{Timing}
+use Rattle.machine_text.specs.{declared.machine.Machine.Machine, Machines.IsValid as IsValidMachine}
+use Rattle.net_defs.specs.declared.{homes.HomeChoice.HomeChoice, netlist.Netlist.Netlist, stimulus.Stimulus.Stimulus, timing.Timing.Timing}
 use Rattle.net_defs.specs.Valid.{IsValid, IsValidStimulus, input_count}
-use Rattle.yse_compile.specs.declared.choose.Chosen.{Chosen}
-use Rattle.yse_compile.specs.Chosen.{IsChosen}
-use Rattle.yse_compile.specs.Compiled.{ShowsReference}
-use Rattle.call_steps.specs.declared.designs.Runnable.{Runnable}
-use Rattle.call_steps.specs.Images.{IsImageOf, IsMachineImage}
+use Rattle.yse_compile.specs.{declared.choose.Chosen.Chosen, Chosen.IsChosen, Compiled.ShowsReference}
+use Rattle.call_steps.specs.{declared.designs.Runnable.Runnable, Images.IsImageOf, Images.IsMachineImage}
 
 -- the image is one of the netlist
 pub record IsRunnable (run : Runnable) : Type 0 where

@@ -1,19 +1,11 @@
 -- The files that words name: each is begun, and its text is checked; what comes next is given.
 use Rattle.std.specs.Prelude.{List, ℕ, Option, Some, None}
-use Rattle.image_defs.specs.declared.file.ImageFile.{ImageFile}
-use Rattle.image_defs.specs.declared.image.Image.{Image}
-use Rattle.machine_text.specs.declared.machine.Machine.{Machine}
-use Rattle.machine_text.specs.Machines.{default_machine}
-use Rattle.net_defs.specs.declared.faults.Fault.{Fault}
-use Rattle.net_defs.specs.declared.homes.HomeChoice.{HomeChoice}
-use Rattle.net_defs.specs.declared.netlist.Netlist.{Netlist}
-use Rattle.net_defs.specs.declared.stimulus.Stimulus.{Stimulus}
-use Rattle.net_defs.specs.declared.timing.Timing.{Timing}
+use Rattle.image_defs.specs.declared.{file.ImageFile.ImageFile, image.Image.Image}
+use Rattle.machine_text.specs.{declared.machine.Machine.Machine, Machines.default_machine}
+use Rattle.net_defs.specs.declared.{faults.Fault.Fault, homes.HomeChoice.HomeChoice, netlist.Netlist.Netlist, stimulus.Stimulus.Stimulus, timing.Timing.Timing}
 use Rattle.cmd_words.specs.declared.command.RunWords.{RunWords}
 use Rattle.call_steps.specs.Checks.{After, AfterFile, HasNoLoop, HasRoom, IsMachineOf, IsNetlistOf, IsStimulusOf, IsListOf, IsFaultListOf, listing, IsLanesOf}
-use Rattle.call_steps.specs.Images.{IsAccepted, IsImageFileOf}
-use Rattle.call_steps.specs.Outcome.{Outcome}
-use Rattle.call_steps.specs.Readings.{Reading}
+use Rattle.call_steps.specs.{Images.IsAccepted, Images.IsImageFileOf, Outcome.Outcome, Readings.Reading}
 use Rattle.stim_text.specs.declared.lanes.Lanes.{Lanes}
 
 -- the machine file and its text, where one is named, and else the default machine

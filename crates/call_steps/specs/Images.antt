@@ -1,29 +1,17 @@
 -- The image of a netlist: that of a run, that of a machine, and one from elsewhere that the netlist accepts.
 use Rattle.std.specs.Prelude.{◌≡◌, length, ◌≢◌, List, ℕ, Result, Ok, Err}
-use Rattle.net_defs.specs.declared.netlist.Netlist.{Netlist}
-use Rattle.net_defs.specs.declared.timing.Timing.{Timing}
-use Rattle.net_defs.specs.declared.stimulus.Stimulus.{Stimulus}
-use Rattle.net_defs.specs.Valid.{input_count}
-use Rattle.image_defs.specs.declared.image.Image.{Image}
-use Rattle.image_defs.specs.WellFormed.{IsWellFormed}
-use Rattle.port_host.specs.Rows.{printed_sources}
-use Rattle.yse_compile.specs.Compiled.{ShowsReference}
-use Rattle.node_defs.specs.declared.items.NodeNet.{NodeNet}
-use Rattle.node_defs.specs.Order.{AreItems}
-use Rattle.image_file.specs.Ranges.{Reads}
-use Rattle.image_file.specs.Reading.{first_fault}
-use Rattle.image_check.specs.declared.check.CheckNo.{CheckNo}
-use Rattle.image_check.specs.declared.check.CheckNo.TheVariants.{Memory}
-use Rattle.image_defs.specs.declared.file.ImageFile.{ImageFile}
-use Rattle.image_check.specs.Check.{Says}
-use Rattle.refusals.specs.declared.status.Status.TheVariants as status
-use Rattle.call_steps.specs.Checks.{ReadsAs}
-use Rattle.refusals.specs.Lines.{image_line, match_line}
-use Rattle.call_steps.specs.Outcome.{Outcome, refusal}
-use Rattle.machine_text.specs.declared.machine.Machine.{Machine}
+use Rattle.net_defs.specs.{declared.netlist.Netlist.Netlist, declared.timing.Timing.Timing, declared.stimulus.Stimulus.Stimulus, Valid.input_count}
 use Rattle.net_defs.specs.declared.homes.HomeChoice.{HomeChoice}
-use Rattle.yse_compile.specs.declared.choose.Chosen.{Chosen}
-use Rattle.yse_compile.specs.Chosen.{IsChosen}
+use Rattle.image_defs.specs.{declared.image.Image.Image, WellFormed.IsWellFormed, declared.file.ImageFile.ImageFile}
+use Rattle.port_host.specs.Rows.{printed_sources}
+use Rattle.yse_compile.specs.{Compiled.ShowsReference, declared.choose.Chosen.Chosen, Chosen.IsChosen}
+use Rattle.node_defs.specs.{declared.items.NodeNet.NodeNet, Order.AreItems}
+use Rattle.image_file.specs.{Ranges.Reads, Reading.first_fault}
+use Rattle.image_check.specs.{declared.check.CheckNo.CheckNo, declared.check.CheckNo.TheVariants.Memory, Check.Says}
+use Rattle.refusals.specs.declared.status.Status.TheVariants as status
+use Rattle.call_steps.specs.{Checks.ReadsAs, Outcome.Outcome, Outcome.refusal}
+use Rattle.refusals.specs.Lines.{image_line, match_line}
+use Rattle.machine_text.specs.declared.machine.Machine.{Machine}
 
 -- a well-formed image with the netlist's inputs and printed names, and the timing's turns, that shows the
 -- cells of the reference simulation for every stimulus

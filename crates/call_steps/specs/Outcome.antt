@@ -1,8 +1,7 @@
 -- How a whole call ends.
 use Rattle.std.specs.Prelude.{List, [], ℕ, Option, None}
-use Rattle.refusals.specs.declared.status.Status.{Status}
+use Rattle.refusals.specs.{declared.status.Status.Status, Lines.memory_line, Lines.unfinished_line}
 use Rattle.refusals.specs.declared.status.Status.TheVariants as status
-use Rattle.refusals.specs.Lines.{memory_line, unfinished_line}
 
 -- The turns that the gates of workers are told of: of so many ports, by so many workers, in so many cycles of so many
 -- units each. Where a run goes by blocks of so many cycles, a fault of writing ends it after a whole number of them.

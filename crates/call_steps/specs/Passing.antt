@@ -3,20 +3,14 @@ use Rattle.std.specs.Prelude.{◌≡◌, ℕ, Bool, List, ◌++◌, Option, Resu
 use Rattle.edge_io.specs.declared.counts.FileCounts.{FileCounts}
 use Rattle.edge_io.specs.declared.files.Files as files
 use Rattle.cmd_words.specs.declared.command.RunWords.{RunWords}
-use Rattle.net_defs.specs.declared.netlist.Netlist.{Netlist}
-use Rattle.net_defs.specs.declared.timing.Timing.{Timing}
+use Rattle.net_defs.specs.declared.{netlist.Netlist.Netlist, timing.Timing.Timing}
 use Rattle.machine_text.specs.declared.machine.Machine.{Machine}
 use Rattle.stim_text.specs.declared.order.Order.{Order}
-use Rattle.call_steps.specs.declared.checks.Built.{Built}
-use Rattle.call_steps.specs.declared.designs.Runnable.{Runnable}
-use Rattle.call_steps.specs.declared.reading.Timed.{Timed}
-use Rattle.refusals.specs.declared.refusal.Refusal.{Refusal}
 use Rattle.call_steps.specs.Checks.{After, AfterFile, HasNoLoop, IsNetlistOf, IsOrderOf}
-use Rattle.call_steps.specs.Designs.{Placed, Prepared}
-use Rattle.call_steps.specs.Outcome.{Outcome}
-use Rattle.call_steps.specs.Readings.{Reading, AreReadings}
-use Rattle.call_steps.specs.Refused.{refused_of}
 use Rattle.call_steps.specs.Files.{AfterFit, AfterImage, AfterMachine, AfterNetlist, AfterStimulus}
+use Rattle.call_steps.specs.{declared.checks.Built.Built, declared.designs.Runnable.Runnable, declared.reading.Timed.Timed, Designs.Placed, Designs.Prepared}
+use Rattle.call_steps.specs.{Outcome.Outcome, Readings.Reading, Readings.AreReadings, Refused.refused_of}
+use Rattle.refusals.specs.declared.refusal.Refusal.{Refusal}
 
 -- what comes after a value
 abbrev pub Continuation : Type 0 → Type 1

@@ -2,9 +2,7 @@
 -- over one that tells nothing, as the real files, whatever came.
 use Rattle.std.specs.Prelude.{◌≡◌, ◌≤◌, ℕ, List, length, Bool, false, Option, Some, None, IfSome, slice_get, count_by}
 use Rattle.std.specs.Option.{OnSome}
-use Rattle.edge_io.specs.Counts.{raised, Rose}
-use Rattle.edge_io.specs.Names.{is_absent, OfTold}
-use Rattle.edge_io.specs.declared.counts.FileCounts.{FileCounts}
+use Rattle.edge_io.specs.{Counts.raised, Counts.Rose, Names.is_absent, Names.OfTold, declared.counts.FileCounts.FileCounts}
 
 -- a file that was begun: its name, and its bytes, or none where it could not be read
 pub record Reading : Type 0 where

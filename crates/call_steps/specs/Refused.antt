@@ -1,9 +1,7 @@
 -- What a call that may refuse says of its check.
 use Rattle.std.specs.Prelude.{Result, Ok, Err}
-use Rattle.refusals.specs.declared.refusal.Refusal.{Refusal}
-use Rattle.call_steps.specs.Checks.{Refuses}
-use Rattle.refusals.specs.Refusals.{line_of, status_of}
-use Rattle.call_steps.specs.Outcome.{Outcome, refusal as refused}
+use Rattle.refusals.specs.{declared.refusal.Refusal.Refusal, Refusals.line_of, Refusals.status_of}
+use Rattle.call_steps.specs.{Checks.Refuses, Outcome.Outcome, Outcome.refusal as refused}
 
 abbrev pub refused_of : Refusal → Outcome
 refused_of why = refused (status_of why) (line_of why)

@@ -1,16 +1,12 @@
 //! The checks of what was read: one function a check, beside those by which `reading` reads a text.
 
 ghost use Rattle.std.specs.Prelude.{◌≡◌, Ok, IfOk, IfErr, OnOk};
-ghost use Rattle.net_defs.specs.Loops.{AreRanks, IsOrder};
-ghost use Rattle.machine_text.specs.declared.machine.Machine.{Machine};
-ghost use Rattle.net_defs.specs.declared.homes.HomeChoice.{HomeChoice};
-ghost use Rattle.net_defs.specs.declared.timing.Timing.{Timing};
+ghost use Rattle.net_defs.specs.{Loops.AreRanks, Loops.IsOrder, declared.homes.HomeChoice.HomeChoice, declared.timing.Timing.Timing};
 ghost use Rattle.net_defs.specs.Valid.{IsValid, IsValidStimulus, IsValidTiming};
-ghost use Rattle.yse_compile.specs.Chosen.{FitsBy};
-ghost use Rattle.yse_compile.specs.Compiled.{IsOverfull, IsRight};
+ghost use Rattle.machine_text.specs.declared.machine.Machine.{Machine};
+ghost use Rattle.yse_compile.specs.{Chosen.FitsBy, Compiled.IsOverfull, Compiled.IsRight};
 ghost use Rattle.call_steps.specs.Checks.{Refuses, HasNoLoop, HasFewCells, cell_count};
-ghost use Rattle.call_steps.specs.code.Checks.{RefusesDesign};
-ghost use Rattle.call_steps.specs.Refused.{Satisfies, refused_of};
+ghost use Rattle.call_steps.specs.{code.Checks.RefusesDesign, Refused.Satisfies, Refused.refused_of};
 
 use image_defs::Image;
 use limits::MAX_CELLS;

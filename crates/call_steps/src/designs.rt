@@ -4,14 +4,9 @@ ghost use Rattle.std.specs.Prelude.{◌≡◌, IfOk};
 ghost use Rattle.cmd_words.specs.Forms.{IsRunInRange};
 ghost use Rattle.machine_text.specs.Machines.{IsValid as IsValidMachine, ports_of};
 ghost use Rattle.net_defs.specs.Valid.{IsValid, IsValidTiming, input_count};
-ghost use Rattle.stim_text.specs.Lanes.{AreLanes};
-ghost use Rattle.stim_text.specs.Orders.{IsValidOrder};
-ghost use Rattle.call_steps.specs.Checks.{HasFewCells};
-ghost use Rattle.call_steps.specs.Designs.{IsRunnable};
-ghost use Rattle.call_steps.specs.Files.{AfterLanes};
-ghost use Rattle.call_steps.specs.Images.{IsImageOf};
+ghost use Rattle.stim_text.specs.{Lanes.AreLanes, Orders.IsValidOrder};
 ghost use Rattle.call_steps.specs.Passing.{AfterBuilt, AfterOrderFile, AfterPlaced, AfterPlacedOn, AfterReady, AfterRunnable, FilesPass};
-ghost use Rattle.call_steps.specs.Refused.{Satisfies};
+ghost use Rattle.call_steps.specs.{Checks.HasFewCells, Designs.IsRunnable, Files.AfterLanes, Images.IsImageOf, Refused.Satisfies};
 
 use crate::checks::{Built, few_cells, of_design};
 use crate::images::{accepted, items_of};

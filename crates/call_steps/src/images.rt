@@ -4,9 +4,7 @@ ghost use Rattle.std.specs.Prelude.{◌≡◌, Ok, IfOk, IfErr, OnOk};
 ghost use Rattle.image_defs.specs.Claimed.{HasClaims};
 ghost use Rattle.net_defs.specs.Valid.{IsValid, IsValidTiming};
 ghost use Rattle.node_defs.specs.Order.{AreItems};
-ghost use Rattle.call_steps.specs.Checks.{HasNoLoop, Refuses};
-ghost use Rattle.call_steps.specs.Images.{IsImageOf, IsAccepted};
-ghost use Rattle.call_steps.specs.Refused.{refused_of};
+ghost use Rattle.call_steps.specs.{Checks.HasNoLoop, Checks.Refuses, Images.IsImageOf, Images.IsAccepted, Refused.refused_of};
 
 use crate::checks::Built;
 use image_check::check_image;

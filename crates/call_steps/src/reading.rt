@@ -6,12 +6,10 @@ ghost use Rattle.image_defs.specs.Claimed.{HasClaims};
 ghost use Rattle.limits.specs.declared.TheConstants.{MAX_TEXT_BYTES};
 ghost use Rattle.machine_text.specs.Machines.{IsValid as IsValidMachine, ports_of};
 ghost use Rattle.net_defs.specs.Valid.{IsFault, IsValid, IsValidStimulus, IsValidTiming, input_count};
-ghost use Rattle.stim_text.specs.Lanes.{AreLanes};
-ghost use Rattle.stim_text.specs.Orders.{IsValidOrder};
+ghost use Rattle.stim_text.specs.{Lanes.AreLanes, Orders.IsValidOrder};
 ghost use Rattle.call_steps.specs.Passing.{AfterNetlistFile, AfterOrderFile, AfterTimed, FilesPass};
-ghost use Rattle.call_steps.specs.code.Passing.{AfterImageFile};
-ghost use Rattle.call_steps.specs.code.Texts.{GivesText};
 ghost use Rattle.call_steps.specs.Files.{AfterFaultList, AfterLanes, AfterList, AfterMachine, AfterStimulus};
+ghost use Rattle.call_steps.specs.code.{Passing.AfterImageFile, Texts.GivesText};
 
 use bench_read::law::reads_as_valid;
 use bench_read::{read_bench, read_faults, read_last};

@@ -2,8 +2,7 @@
 
 ghost use Rattle.std.specs.Prelude.{◌≡◌, ◌≤◌, ℕ, Some, length, slice_get};
 ghost use Rattle.limits.specs.declared.TheConstants.{MAX_ADDRESS_BITS, MAX_CYCLES, MAX_WORD_BITS};
-ghost use Rattle.net_defs.specs.declared.stimulus.Stimulus.{Stimulus};
-ghost use Rattle.net_defs.specs.Valid.{IsValid, IsValidStimulus, input_count};
+ghost use Rattle.net_defs.specs.{declared.stimulus.Stimulus.Stimulus, Valid.IsValid, Valid.IsValidStimulus, Valid.input_count};
 ghost use Rattle.stim_text.specs.Lanes.{AreLanes, longest};
 ghost use Rattle.call_steps.specs.Checks.{HasFewBits, HasFewLaneCells, HasFewSignals, block_bits, lane_cell_count, memory_bits};
 ghost use Rattle.call_steps.specs.Refused.{Satisfies};

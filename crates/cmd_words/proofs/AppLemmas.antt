@@ -1,17 +1,13 @@
 -- The command of `clap`: how it is built, and what it finds by a name.
 use Rattle.std.proofs.Common.{is_some, ◌≡◌, ◌+◌, ◌<◌, ℕ, Bool, true, false, List, [], ◌∷◌, map, length, take, Option, Some, None, refl, ap, sym, ◌∙◌, codes}
+use Rattle.std.proofs.lemmas.{Bool.false_from_ne_true, List.map-append, List.take_more, Slice.Eq.bytes_eq-Decides}
 use Rattle.std.specs.Prelude.{bytes_eq, count_by, find, slice_index_or, if◌then◌else◌}
-use Rattle.std.specs.List.{list_all, list_any}
-use Rattle.std.specs.Borrow.{Bor}
-use Rattle.std.proofs.lemmas.Bool.{false_from_ne_true}
-use Rattle.std.proofs.lemmas.List.{map-append, take_more}
-use Rattle.std.proofs.lemmas.Slice.Eq.{bytes_eq-Decides}
-use Rattle.clap.specs.Faults.{is_simple_and_free}
+use Rattle.std.specs.{List.list_all, List.list_any, Borrow.Bor}
 use Rattle.clap.specs.Simple.{App, Shape, built, filled_from, is_simple, new_shape, with_rule}
 use Rattle.clap.specs.Walk.{Rule, arg_by_id, arg_by_long, is_early_multiple}
-use Rattle.clap.specs.declared.builder.range.ValueRange.{ValueRange}
-use Rattle.cmd_words.specs.Arguments.{Word, has_name}
+use Rattle.clap.specs.{Faults.is_simple_and_free, declared.builder.range.ValueRange.ValueRange}
 use Rattle.cmd_words.specs.code.Parses.{files_id, files_rule, option_rule, app_with, texts_in}
+use Rattle.cmd_words.specs.Arguments.{Word, has_name}
 
 abbrev one_value : Option ValueRange
 one_value = Some (record { start_inclusive = 1; end_inclusive = 1 })

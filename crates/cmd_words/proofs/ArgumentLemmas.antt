@@ -1,16 +1,13 @@
 -- Words read one by one are the pieces of their spelling, both ways.
 use Rattle.std.proofs.Common.{◌≡◌, ◌≢◌, ◌&&◌, Bool, true, false, not, List, [], ◌∷◌, ◌++◌, map, length, Option, Some, None, refl, sym, ap, ap₂, ◌∙◌, arith, append-nil, append_assoc}
+use Rattle.std.proofs.{Math.Bool.and_assoc, lemmas.Bool.and_from, lemmas.Bool.and_parts, lemmas.Bool.lt-ltb, lemmas.Slice.Eq.bytes_eq-Decides}
 use Rattle.std.specs.Prelude.{flat_map, if◌then◌else◌, option_and_then, unwrap_or}
 use Rattle.std.specs.List.{AllByRecursion, list_all}
-use Rattle.std.proofs.Math.Bool.{and_assoc}
-use Rattle.std.proofs.lemmas.Bool.{and_from, and_parts, lt-ltb}
-use Rattle.std.proofs.lemmas.Slice.Eq.{bytes_eq-Decides}
 use Rattle.list_laws.proofs.Options.{one_some}
 use Rattle.cmd_words.specs.Arguments.{Word, dashes, begins_with_dash, has_name, names_given, Piece, alone, spaced, joined, words_of, arguments_of, options_of, IsPiece, tail_words, are_new, AreArguments}
 use Rattle.cmd_words.specs.Uses.{Use, argument, option, Look, the_end, an_option, a_dash, a_word, look, is_filled, fits, with_use, collects, Found, nothing_found, parsed, put_first, read_word, read_value, reads}
 use Rattle.cmd_words.proofs.LookLemmas.{is_proper, proper_name, look_plain, look_end, look_named, look_joined, long_is}
-use Rattle.cmd_words.proofs.ParseLemmas.{names_more}
-use Rattle.cmd_words.proofs.WalkLemmas.{IsLook, looks}
+use Rattle.cmd_words.proofs.{ParseLemmas.names_more, WalkLemmas.IsLook, WalkLemmas.looks}
 
 -- ---- what uses give together
 

@@ -4,15 +4,11 @@ use Rattle.std.specs.Prelude.{option_and_then, codes, Result, Ok, Err}
 use Rattle.std.specs.Result.{IsErrAnd}
 use Rattle.list_laws.proofs.Options.{one_some}
 use Rattle.clap.specs.declared.parser.matches.ArgMatches.{ArgMatches}
-use Rattle.net_defs.specs.declared.homes.HomeChoice.{HomeChoice}
-use Rattle.net_defs.specs.declared.timing.Timing.{Timing}
-use Rattle.cmd_words.specs.declared.command.RunWords.{RunWords}
-use Rattle.cmd_words.specs.declared.command.WordNo.{WordNo}
-use Rattle.cmd_words.specs.Arguments.{Word, value_given}
+use Rattle.net_defs.specs.declared.{homes.HomeChoice.HomeChoice, timing.Timing.Timing}
 use Rattle.cmd_words.specs.Asked.{Answers, IsRefusal, Values, image_by, of_image, of_large, of_netlist, of_topic, of_two_files, large_by, run_by, run_with, says}
 use Rattle.cmd_words.specs.code.Parses.{arguments_found, both_of, of_word, one_of, perhaps_one_of, three_of, value_found, settings_by, IsParsedAs}
 use Rattle.cmd_words.specs.Settings.{timing_by, banks_by, workers_by, homes_by}
-use Rattle.cmd_words.specs.Uses.{Found}
+use Rattle.cmd_words.specs.{declared.command.RunWords.RunWords, declared.command.WordNo.WordNo, Arguments.Word, Arguments.value_given, Uses.Found}
 
 -- what words say is what a parse of them found says
 pub says_found : {T : Type 0} (names words : List Word) (reading : List Word → Values → Option T) (matches : ArgMatches) → IsParsedAs names words matches

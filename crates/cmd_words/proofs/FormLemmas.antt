@@ -1,26 +1,20 @@
 -- The command that words ask for is the one whose form they have.
 use Rattle.std.proofs.Common.{◌≡◌, inl, inr, ℕ, Bool, true, false, List, [], ◌∷◌, Option, Some, None, option_map, refl, sym, subst, ap, ap₂, ◌∙◌, codes}
+use Rattle.std.proofs.lemmas.Slice.Eq.{bytes_eq-Decides}
 use Rattle.std.specs.Prelude.{bytes_eq, cond, find, flat_map, if◌then◌else◌, option_and_then, Result, Ok, Err, MatchResult}
 use Rattle.std.specs.List.{AllByRecursion, list_all}
-use Rattle.std.proofs.lemmas.Slice.Eq.{bytes_eq-Decides}
 use Rattle.list_laws.proofs.Options.{one_some}
-use Rattle.net_defs.specs.declared.homes.HomeChoice.{HomeChoice}
-use Rattle.net_defs.specs.declared.timing.Timing.{Timing}
-use Rattle.cmd_words.specs.declared.command.Command.{Command}
+use Rattle.net_defs.specs.declared.{homes.HomeChoice.HomeChoice, timing.Timing.Timing}
 use Rattle.cmd_words.specs.declared.command.Command.TheVariants.{Run, Refer, Order, Plan, Compile, Exec, Pack, Fault, Cover, Show, Large, Help}
-use Rattle.cmd_words.specs.declared.command.RunWords.{RunWords}
-use Rattle.cmd_words.specs.declared.command.WordNo.{WordNo}
 use Rattle.cmd_words.specs.Arguments.{Word, Piece, alone, spaced, joined, options_of, IsPiece, AreArguments, value_given}
 use Rattle.cmd_words.specs.Asked.{Values, asked, of_image, of_large, of_netlist, of_one_file, of_topic, of_two_files, large_with, run_by, run_with, says, Answers}
 use Rattle.cmd_words.specs.Forms.{HasForm, HasNoForm, IsCall, IsLarge, IsOfTopic, IsRun}
 use Rattle.cmd_words.specs.Settings.{run_options, refer_options, order_options, plan_options, compile_options, exec_options, pack_options, fault_options, cover_options, show_options, large_options, help_options, timing_by, banks_by, workers_by, homes_by, gates_of, cycles_of}
-use Rattle.cmd_words.specs.declared.topic.Topic.{Topic}
-use Rattle.cmd_words.specs.declared.topic.Topic.TheVariants as topic
 use Rattle.cmd_words.specs.Topics.{topic_of, topic_words, topics, word_of}
+use Rattle.cmd_words.specs.declared.{command.Command.Command, command.RunWords.RunWords, command.WordNo.WordNo, topic.Topic.Topic}
 use Rattle.cmd_words.specs.Uses.{Found, parsed}
-use Rattle.cmd_words.proofs.ArgumentLemmas.{arguments_from, parsed_from}
-use Rattle.cmd_words.proofs.AskLemmas.{run_of}
-use Rattle.cmd_words.proofs.LookLemmas.{is_proper}
+use Rattle.cmd_words.specs.declared.topic.Topic.TheVariants as topic
+use Rattle.cmd_words.proofs.{ArgumentLemmas.arguments_from, ArgumentLemmas.parsed_from, AskLemmas.run_of, LookLemmas.is_proper}
 
 -- ---- from the form to what is asked
 

@@ -1,14 +1,10 @@
 -- What one word looks like, and how what it looks like is spelled.
 use Rattle.std.proofs.Common.{add-one, ap₂, ◌≡◌, ◌==◌, ◌&&◌, ◌||◌, ℕ, zero, suc, Bool, true, false, not, List, [], ◌∷◌, ◌++◌, Option, Some, None, refl, sym, ap, ◌∙◌, arith}
-use Rattle.std.specs.Prelude.{bytes_eq, if◌then◌else◌, option_and_then}
+use Rattle.std.proofs.{Math.Numerals.one-add, lemmas.Bool.and_parts, lemmas.Bool.Decides.nat_tests, lemmas.Slice.Eq.bytes_eq-Decides}
 use Rattle.std.specs.List.{list_all, before_first, after_first, position_or_len}
-use Rattle.std.proofs.Math.Numerals.{one-add}
-use Rattle.std.proofs.lemmas.Bool.{and_parts}
-use Rattle.std.proofs.lemmas.Bool.Decides.{nat_tests}
-use Rattle.std.proofs.lemmas.Slice.Eq.{bytes_eq-Decides}
+use Rattle.std.specs.Prelude.{bytes_eq, if◌then◌else◌, option_and_then}
 use Rattle.list_laws.proofs.Options.{one_some}
-use Rattle.clap.proofs.CutLemmas.{Lacks}
-use Rattle.clap.proofs.LexerLemmas.{name_and_value-at, name_and_value-without}
+use Rattle.clap.proofs.{CutLemmas.Lacks, LexerLemmas.name_and_value-at, LexerLemmas.name_and_value-without}
 use Rattle.clap.specs.Lexer.{has_byte, long_of, long_of_rest, name_and_value, strip_byte}
 use Rattle.cmd_words.specs.Arguments.{Word, dashes, has_name, IsPlain}
 use Rattle.cmd_words.specs.Uses.{the_end, an_option, a_word, look, is_filled}

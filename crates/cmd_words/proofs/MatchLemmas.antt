@@ -1,31 +1,19 @@
 -- What the clauses of `clap`'s parse say of words.
 use Rattle.std.proofs.Common.{◌≡◌, inl, inr, Bool, true, false, List, [], ◌∷◌, map, Option, Some, None, is_some, option_map, refl, sym, ap, ◌∙◌, cond}
+use Rattle.std.proofs.{Math.Path.fun_ext, lemmas.Slice.Eq.bytes_eq-Decides}
 use Rattle.std.specs.Prelude.{bytes_eq, find, if◌then◌else◌, option_and_then, slice_get, unwrap_or}
 use Rattle.std.specs.Borrow.{Bor}
-use Rattle.std.proofs.Math.Path.{fun_ext}
-use Rattle.std.proofs.lemmas.Slice.Eq.{bytes_eq-Decides}
-use Rattle.clap.specs.Facts.{Entry}
-use Rattle.clap.specs.Faults.{fault_of, is_simple_and_free}
-use Rattle.clap.specs.Kinds.{HasKind, IsAmong, Kinds}
 use Rattle.clap.specs.Matches.{first_value, found_of, matched_of, raw_values}
-use Rattle.clap.specs.Simple.{App, HasMatchesOf}
-use Rattle.clap.specs.Values.{kind_of}
 use Rattle.clap.specs.Walk.{Row, all_of, nothing_held, row_of, rows_of, walk_from}
-use Rattle.clap.specs.declared.error.Error.{Error}
-use Rattle.clap.specs.declared.error.kind.ErrorKind.{ErrorKind}
-use Rattle.clap.specs.declared.error.kind.ErrorKind.TheVariants.{OutOfMemory}
-use Rattle.clap.specs.declared.parser.matches.ArgMatches.{ArgMatches}
-use Rattle.clap.specs.declared.parser.matches.Found.{Found as Matched}
+use Rattle.clap.specs.{Facts.Entry, Faults.fault_of, Faults.is_simple_and_free, Kinds.HasKind, Kinds.IsAmong, Kinds.Kinds, Simple.App, Simple.HasMatchesOf}
+use Rattle.clap.specs.{Values.kind_of, declared.error.Error.Error, declared.error.kind.ErrorKind.ErrorKind}
+use Rattle.clap.specs.declared.{error.kind.ErrorKind.TheVariants.OutOfMemory, parser.matches.ArgMatches.ArgMatches, parser.matches.Found.Found as Matched}
 use Rattle.clap.specs.declared.parser.matches.MatchedArg.{MatchedArg}
-use Rattle.cmd_words.specs.declared.command.WordNo.TheVariants.{Usage}
-use Rattle.cmd_words.specs.Arguments.{Word, has_name, value_given}
-use Rattle.cmd_words.specs.Asked.{IsRefusal}
 use Rattle.cmd_words.specs.code.Parses.{files_id, app_with, has_no_short, arguments_found, value_found, IsParsedAs, refusal_of}
+use Rattle.cmd_words.specs.{declared.command.WordNo.TheVariants.Usage, Arguments.Word, Arguments.has_name, Arguments.value_given, Asked.IsRefusal}
 use Rattle.cmd_words.specs.Uses.{Found, parsed}
-use Rattle.cmd_words.proofs.AppLemmas.{is_simple_app, simple_and_free}
 use Rattle.cmd_words.proofs.ParseLemmas.{Shows, AreShown, listed, given_none, parse_shows, short_none}
-use Rattle.cmd_words.proofs.RowLemmas.{fault_is, matches_are}
-use Rattle.cmd_words.proofs.WalkLemmas.{fine, outcome}
+use Rattle.cmd_words.proofs.{AppLemmas.is_simple_app, AppLemmas.simple_and_free, RowLemmas.fault_is, RowLemmas.matches_are, WalkLemmas.fine, WalkLemmas.outcome}
 
 -- ---- what the getters read
 

@@ -1,21 +1,15 @@
 -- A parse of `clap` finds what the words give, and fails where they give nothing.
 use Rattle.std.proofs.Common.{◌≡◌, ◌==◌, ◌&&◌, ◌||◌, ℕ, Bool, true, false, not, List, [], ◌∷◌, ◌++◌, map, Option, Some, None, is_some, option_map, refl, sym, ap, ◌∙◌, cond}
+use Rattle.std.proofs.lemmas.{Bool.false_from_ne_true, Bool.or_parts, List.Folds.list_any-append, Slice.Eq.bytes_eq-Decides}
 use Rattle.std.specs.Prelude.{bytes_eq, find, if◌then◌else◌, option_and_then, unwrap_or}
 use Rattle.std.specs.List.{AllByRecursion}
-use Rattle.std.proofs.lemmas.Bool.{false_from_ne_true, or_parts}
-use Rattle.std.proofs.lemmas.List.Folds.{list_any-append}
-use Rattle.std.proofs.lemmas.Slice.Eq.{bytes_eq-Decides}
-use Rattle.clap.specs.Lexer.{long_of}
 use Rattle.clap.specs.Walk.{Row, all_of, has_row, nothing_held, walk_from, with_values, without}
-use Rattle.clap.specs.declared.builder.value_parser.Reading.TheVariants.{AsWritten}
-use Rattle.clap.specs.declared.parser.matches.ValueSource.TheVariants.{CommandLine}
+use Rattle.clap.specs.{Lexer.long_of, declared.builder.value_parser.Reading.TheVariants.AsWritten, declared.parser.matches.ValueSource.TheVariants.CommandLine}
 use Rattle.cmd_words.specs.Arguments.{Word, dashes, begins_with_dash, has_name, names_given, value_given}
-use Rattle.cmd_words.specs.code.Parses.{files_id, has_no_short, is_short}
 use Rattle.cmd_words.specs.Uses.{Use, argument, option, Look, the_end, an_option, a_dash, a_word, look, is_filled, Found, nothing_found, fits, with_use, collects, read_word, read_value, reads, put_first, parsed}
-use Rattle.cmd_words.proofs.TestLemmas.{same_either}
-use Rattle.cmd_words.proofs.AppLemmas.{differs, same_name}
-use Rattle.cmd_words.proofs.RowLemmas.{row_values, row_is, without_none}
+use Rattle.cmd_words.specs.code.Parses.{files_id, has_no_short, is_short}
 use Rattle.cmd_words.proofs.WalkLemmas.{IsLook, after_use, apply, gate, looks, outcome, parse_is, use_fine}
+use Rattle.cmd_words.proofs.{TestLemmas.same_either, AppLemmas.differs, AppLemmas.same_name, RowLemmas.row_values, RowLemmas.row_is, RowLemmas.without_none}
 
 -- ---- what is given
 

@@ -1,22 +1,16 @@
 -- The numbers of a command that words ask for are in their ranges.
 use Rattle.std.proofs.Common.{◌≡◌, refl, sym, subst, ℕ, ◌≤◌, Bool, true, false, ◌&&◌, List, [], length, Option, None, Some, arith, codes}
-use Rattle.std.specs.Prelude.{nat_le, if◌then◌else◌, IfOk, Result, Ok, Err}
 use Rattle.std.proofs.lemmas.Bool.{leb-true}
+use Rattle.std.specs.Prelude.{nat_le, if◌then◌else◌, IfOk, Result, Ok, Err}
 use Rattle.limits.specs.declared.TheConstants.{MAX_LARGE_CYCLES, MAX_LARGE_GATES, MAX_UNITS, MAX_BANKS, MAX_WORKERS}
 use Rattle.text_lines.specs.Numbers.{number_of, within}
-use Rattle.net_defs.specs.declared.timing.Timing.{Timing}
-use Rattle.net_defs.specs.declared.timing.Mode.{Mode}
-use Rattle.net_defs.specs.declared.timing.Mode.TheVariants.{Rank, Unit, Mixed}
-use Rattle.net_defs.specs.declared.timing.Init.{Init}
+use Rattle.net_defs.specs.declared.timing.{Timing.Timing, Mode.Mode, Mode.TheVariants.Rank, Mode.TheVariants.Unit, Mode.TheVariants.Mixed, Init.Init}
 use Rattle.net_defs.specs.Valid.{IsValidTiming}
-use Rattle.cmd_words.specs.declared.command.Command.{Command}
 use Rattle.cmd_words.specs.declared.command.Command.TheVariants.{Run, Refer, Order, Plan, Compile, Exec, Pack, Fault, Cover, Show, Large, Help}
-use Rattle.cmd_words.specs.declared.command.RunWords.{RunWords}
-use Rattle.cmd_words.specs.declared.command.WordNo.{WordNo}
-use Rattle.cmd_words.specs.Arguments.{Word, value_given}
-use Rattle.cmd_words.specs.Asked.{Values, Answers, asked}
 use Rattle.cmd_words.specs.Forms.{HasForm, IsInRange, IsLarge, IsLargeInRange, IsRun, IsRunInRange}
 use Rattle.cmd_words.specs.Settings.{allows_units, allows_list, count_of, count_or, mode_of, init_of, timing_with}
+use Rattle.cmd_words.specs.declared.command.{Command.Command, RunWords.RunWords, WordNo.WordNo}
+use Rattle.cmd_words.specs.{Arguments.Word, Arguments.value_given, Asked.Values, Asked.Answers, Asked.asked}
 use Rattle.cmd_words.proofs.FormLemmas.{form_from}
 
 -- a number within limits

@@ -1,21 +1,16 @@
 -- The end of a parse of `clap`: its faults, the rows that it finds, and what stands in them.
 use Rattle.std.proofs.Common.{◌≡◌, ◌&&◌, ◌||◌, Bool, true, false, not, List, [], ◌∷◌, ◌++◌, map, Option, Some, None, is_some, option_map, refl, sym, ap, ◌∙◌, cond}
+use Rattle.std.proofs.lemmas.{Bool.false_from_ne_true, Bool.or_parts, Bool.or_right, Slice.Eq.bytes_eq-Decides}
 use Rattle.std.specs.Prelude.{bytes_eq, find, if◌then◌else◌, unwrap_or}
 use Rattle.std.specs.List.{fold, list_any}
-use Rattle.std.proofs.lemmas.Bool.{false_from_ne_true, or_parts, or_right}
-use Rattle.std.proofs.lemmas.Slice.Eq.{bytes_eq-Decides}
 use Rattle.clap.specs.Faults.{built_fault, check_fault, defaults_fault, entered_fault, fault_of, settle_fault, walk_fault}
-use Rattle.clap.specs.Kinds.{Kinds, or_else}
 use Rattle.clap.specs.Simple.{App, entered, matches_of, names_of}
-use Rattle.clap.specs.Takes.{is_given}
 use Rattle.clap.specs.Walk.{Held, Row, all_of, finished, has_row, rows_after, nothing_held, settled, stronger, walk, walk_from, with_default, with_values, without}
-use Rattle.clap.specs.declared.builder.value_parser.Reading.{Reading}
+use Rattle.clap.specs.{Kinds.Kinds, Kinds.or_else, Takes.is_given, declared.builder.value_parser.Reading.Reading}
 use Rattle.clap.specs.declared.parser.matches.ValueSource.{ValueSource}
-use Rattle.cmd_words.specs.Arguments.{Word}
-use Rattle.cmd_words.specs.code.Parses.{files_id, app_with}
-use Rattle.cmd_words.proofs.TestLemmas.{same_either}
+use Rattle.cmd_words.specs.{Arguments.Word, code.Parses.files_id, code.Parses.app_with}
 use Rattle.cmd_words.proofs.AppLemmas.{app_built, option_built, rules_with, shape_with}
-use Rattle.cmd_words.proofs.WalkLemmas.{fine, gate, outcome}
+use Rattle.cmd_words.proofs.{TestLemmas.same_either, WalkLemmas.fine, WalkLemmas.gate, WalkLemmas.outcome}
 
 -- ---- after the walk
 

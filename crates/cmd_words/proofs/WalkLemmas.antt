@@ -1,18 +1,15 @@
 -- What the parse of `clap` makes of words: the uses that they give, one after another.
 use Rattle.std.proofs.Common.{◌≡◌, ◌==◌, ◌&&◌, Bool, true, false, not, List, [], ◌∷◌, map, Option, Some, None, option_map, refl, ap, ◌∙◌}
 use Rattle.std.proofs.lemmas.Bool.{and_right}
-use Rattle.std.specs.Prelude.{bytes_eq, if◌then◌else◌, option_and_then}
-use Rattle.std.specs.List.{cons_option, fold}
+use Rattle.std.specs.{Prelude.bytes_eq, Prelude.if◌then◌else◌, Prelude.option_and_then, List.cons_option, List.fold}
 use Rattle.clap.specs.Faults.{settle_fault, turn_fault, use_fault, walk_fault}
-use Rattle.clap.specs.Kinds.{Kinds, or_else}
-use Rattle.clap.specs.Lexer.{long_of, name_and_value, short_of}
 use Rattle.clap.specs.Walk.{is_pending, nothing_held, walk_from, Held, Row, Rule, Waiting, idle, positional, option as waiting, Walk, has_row, settled, walked, with_values, without}
-use Rattle.clap.specs.declared.builder.value_parser.Reading.TheVariants.{AsWritten}
-use Rattle.clap.specs.declared.error.kind.ErrorKind.{ErrorKind}
+use Rattle.clap.specs.{Kinds.Kinds, Kinds.or_else, Lexer.long_of, Lexer.name_and_value, Lexer.short_of}
+use Rattle.clap.specs.declared.{builder.value_parser.Reading.TheVariants.AsWritten, error.kind.ErrorKind.ErrorKind}
 use Rattle.clap.specs.declared.parser.matches.ValueSource.TheVariants.{CommandLine}
 use Rattle.cmd_words.specs.Arguments.{Word, dashes, begins_with_dash, has_name}
-use Rattle.cmd_words.specs.code.Parses.{files_id, has_no_short, is_short}
 use Rattle.cmd_words.specs.Uses.{Use, argument, option, Look, the_end, an_option, a_dash, a_word, look, look_of, is_filled, read_word, read_value, reads, put_first}
+use Rattle.cmd_words.specs.code.Parses.{files_id, has_no_short, is_short}
 use Rattle.cmd_words.proofs.AppLemmas.{files_built, option_built, rules_with, shape_with, by_id, by_long, same_name}
 
 -- ---- faults and rows in one

@@ -1,17 +1,10 @@
 -- The command that words ask for, as a function.
 use Rattle.std.specs.Prelude.{◌≡◌, ◌⊎◌, ℕ, List, [], ◌∷◌, if◌then◌else◌, Option, Some, None, option_map, option_and_then, Result, MatchResult, codes, bytes_eq}
-use Rattle.net_defs.specs.declared.homes.HomeChoice.{HomeChoice}
-use Rattle.net_defs.specs.declared.timing.Timing.{Timing}
-use Rattle.cmd_words.specs.declared.command.Command.{Command}
+use Rattle.net_defs.specs.declared.{homes.HomeChoice.HomeChoice, timing.Timing.Timing}
 use Rattle.cmd_words.specs.declared.command.Command.TheVariants.{Run, Refer, Order, Plan, Compile, Exec, Pack, Fault, Cover, Show, Large, Help}
-use Rattle.cmd_words.specs.declared.command.RunWords.{RunWords}
-use Rattle.cmd_words.specs.declared.command.WordNo.{WordNo}
-use Rattle.cmd_words.specs.declared.command.WordNo.TheVariants.{Usage, Memory}
-use Rattle.cmd_words.specs.Arguments.{Word, value_given}
 use Rattle.cmd_words.specs.Settings.{run_options, refer_options, order_options, plan_options, compile_options, exec_options, pack_options, fault_options, cover_options, show_options, large_options, help_options, timing_by, banks_by, workers_by, homes_by, gates_of, cycles_of}
-use Rattle.cmd_words.specs.declared.topic.Topic.{Topic}
-use Rattle.cmd_words.specs.Topics.{topic_of}
-use Rattle.cmd_words.specs.Uses.{parsed}
+use Rattle.cmd_words.specs.declared.command.{Command.Command, RunWords.RunWords, WordNo.WordNo, WordNo.TheVariants.Usage, WordNo.TheVariants.Memory}
+use Rattle.cmd_words.specs.{Arguments.Word, Arguments.value_given, declared.topic.Topic.Topic, Topics.topic_of, Uses.parsed}
 
 -- the value of each option that is given
 abbrev pub Values : Type 0

@@ -1,17 +1,13 @@
 -- The form of the words of each command.
 use Rattle.std.specs.Prelude.{◌≡◌, ◌↔◌, ◌⊎◌, ◌≤◌, ⊤, ℕ, List, [], ◌∷◌, Some, codes}
 use Rattle.net_defs.specs.Valid.{IsValidTiming}
-use Rattle.cmd_words.specs.declared.command.Command.{Command}
 use Rattle.cmd_words.specs.declared.command.Command.TheVariants.{Run, Refer, Order, Plan, Compile, Exec, Pack, Fault, Cover, Show, Large, Help}
-use Rattle.cmd_words.specs.declared.command.RunWords.{RunWords}
-use Rattle.cmd_words.specs.declared.command.WordNo.{WordNo}
-use Rattle.cmd_words.specs.declared.command.WordNo.TheVariants.{Usage, Memory}
-use Rattle.cmd_words.specs.declared.topic.Topic.TheVariants as topic
-use Rattle.limits.specs.declared.TheConstants.{MAX_LARGE_CYCLES, MAX_LARGE_GATES, MAX_BANKS, MAX_WORKERS}
-use Rattle.cmd_words.specs.Arguments.{Word, AreArguments, value_given}
-use Rattle.cmd_words.specs.Asked.{asked}
 use Rattle.cmd_words.specs.Settings.{timing_by, banks_by, workers_by, homes_by, gates_of, cycles_of}
 use Rattle.cmd_words.specs.Topics.{options_of, topic_for, topic_words, word_of}
+use Rattle.cmd_words.specs.declared.command.{Command.Command, RunWords.RunWords, WordNo.WordNo, WordNo.TheVariants.Usage, WordNo.TheVariants.Memory}
+use Rattle.cmd_words.specs.{Arguments.Word, Arguments.AreArguments, Arguments.value_given, Asked.asked}
+use Rattle.cmd_words.specs.declared.topic.Topic.TheVariants as topic
+use Rattle.limits.specs.declared.TheConstants.{MAX_LARGE_CYCLES, MAX_LARGE_GATES, MAX_BANKS, MAX_WORKERS}
 
 -- the name of a command, and behind it these positional arguments and options
 pub record IsCall (name : Word) (options words arguments : List Word) (given : List (Word × Word)) : Type 0 where

@@ -2,12 +2,8 @@
 use Rattle.std.specs.Prelude.{◌==◌, ◌&&◌, ℕ, Bool, true, not, is_some, List, [], ◌∷◌, length, nat_le, if◌then◌else◌, Option, Some, None, codes, bytes_eq}
 use Rattle.limits.specs.declared.TheConstants.{DEFAULT_BANKS, DEFAULT_UNITS, DEFAULT_WORKERS, MAX_LARGE_CYCLES, MAX_LARGE_GATES, MAX_UNITS, MAX_BANKS, MAX_WORKERS}
 use Rattle.text_lines.specs.Numbers.{number_of, within}
-use Rattle.net_defs.specs.declared.homes.HomeChoice.{HomeChoice}
-use Rattle.net_defs.specs.declared.homes.HomeChoice.TheVariants.{Plain, Better}
-use Rattle.net_defs.specs.declared.timing.Timing.{Timing}
-use Rattle.net_defs.specs.declared.timing.Mode.{Mode}
-use Rattle.net_defs.specs.declared.timing.Mode.TheVariants.{Rank, Unit, Mixed}
-use Rattle.net_defs.specs.declared.timing.Init.{Init}
+use Rattle.net_defs.specs.declared.{homes.HomeChoice.HomeChoice, homes.HomeChoice.TheVariants.Plain, homes.HomeChoice.TheVariants.Better, timing.Timing.Timing}
+use Rattle.net_defs.specs.declared.timing.{Mode.Mode, Mode.TheVariants.Rank, Mode.TheVariants.Unit, Mode.TheVariants.Mixed, Init.Init}
 use Rattle.net_defs.specs.declared.timing.Init.TheVariants.{Undef, Zero}
 use Rattle.cmd_words.specs.Arguments.{Word}
 

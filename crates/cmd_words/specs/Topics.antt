@@ -1,11 +1,9 @@
 -- The commands as what help can be asked of: the word of each, and its options.
 use Rattle.std.specs.Prelude.{List, [], ◌∷◌, Option, Some, None, codes, find, bytes_eq}
-use Rattle.cmd_words.specs.declared.command.Command.{Command}
-use Rattle.cmd_words.specs.declared.command.Command.TheVariants as command
-use Rattle.cmd_words.specs.declared.topic.Topic.{Topic}
 use Rattle.cmd_words.specs.declared.topic.Topic.TheVariants.{Run, Refer, Order, Plan, Show, Large, Compile, Exec, Pack, Fault, Cover, Help}
-use Rattle.cmd_words.specs.Arguments.{Word}
 use Rattle.cmd_words.specs.Settings.{run_options, refer_options, order_options, plan_options, compile_options, exec_options, pack_options, fault_options, cover_options, show_options, large_options, help_options}
+use Rattle.cmd_words.specs.{declared.command.Command.Command, declared.topic.Topic.Topic, Arguments.Word}
+use Rattle.cmd_words.specs.declared.command.Command.TheVariants as command
 
 -- all commands
 abbrev pub topics : List Topic

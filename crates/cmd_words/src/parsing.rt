@@ -3,10 +3,8 @@
 ghost use Rattle.std.specs.Prelude.{◌≡◌, false, [], map, bytes_eq, option_map, MatchResult, IfOk};
 ghost use Rattle.std.specs.String.{string_bytes};
 ghost use Rattle.clap.specs.Words.{app_of, kind_of, rule_of};
-ghost use Rattle.cmd_words.specs.Arguments.{has_name};
-ghost use Rattle.cmd_words.specs.Asked.{IsRefusal};
 ghost use Rattle.cmd_words.specs.code.Parses.{files_id, files_rule, option_rule, app_with, one_of, perhaps_one_of, both_of, three_of, texts_in, has_no_short, is_short, arguments_found, value_found, IsParsedAs, refusal_of};
-ghost use Rattle.cmd_words.specs.Uses.{parsed};
+ghost use Rattle.cmd_words.specs.{Arguments.has_name, Asked.IsRefusal, Uses.parsed};
 
 use crate::command::WordNo;
 use clap::builder::ValueParser;

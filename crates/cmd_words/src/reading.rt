@@ -3,12 +3,10 @@
 ghost use Rattle.std.specs.Prelude.{◌≡◌, false, map, option_map, codes, MatchResult, IfOk};
 ghost use Rattle.std.specs.String.{string_bytes};
 ghost use Rattle.cmd_words.specs.declared.command.Command.TheVariants as command;
-ghost use Rattle.cmd_words.specs.declared.command.WordNo.TheVariants.{Memory as NoMemory};
-ghost use Rattle.cmd_words.specs.Arguments.{has_name};
 ghost use Rattle.cmd_words.specs.Asked.{Answers, asked, asked_by, says, image_by, of_two_files, of_netlist, of_one_file, of_image, of_large, of_topic, run_by, large_by};
-ghost use Rattle.cmd_words.specs.Forms.{HasForm, HasNoForm, IsInRange};
 ghost use Rattle.cmd_words.specs.code.Parses.{files_id, texts_in, of_word, value_found, settings_by};
 ghost use Rattle.cmd_words.specs.Settings.{run_options, refer_options, order_options, plan_options, compile_options, exec_options, pack_options, fault_options, cover_options, show_options, large_options, help_options};
+ghost use Rattle.cmd_words.specs.{declared.command.WordNo.TheVariants.Memory as NoMemory, Arguments.has_name, Forms.HasForm, Forms.HasNoForm, Forms.IsInRange};
 
 use crate::command::{Command, RunWords, WordNo};
 use crate::options::{

@@ -1,8 +1,8 @@
 //! What the values of options say.
 
 ghost use Rattle.std.specs.Prelude.{◌≡◌, option_map};
-ghost use Rattle.cmd_words.specs.code.Parses.{value_found};
 ghost use Rattle.cmd_words.specs.Settings.{count_of, count_or, mode_of, init_of, allows_units, allows_list, timing_with, timing_by, banks_by, workers_by, homes_of, homes_by, gates_of, cycles_of};
+ghost use Rattle.cmd_words.specs.code.Parses.{value_found};
 
 use crate::parsing::value;
 use clap::ArgMatches;

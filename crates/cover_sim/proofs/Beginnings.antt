@@ -1,24 +1,17 @@
 -- A simulation under a stimulus begins with that under each of its beginnings, and so do the marks.
 use Rattle.std.proofs.Common.{◌≡◌, ◌∙◌, ℕ, zero, suc, ◌+◌, ◌-◌, ◌*◌, ◌/◌, ◌<◌, ◌≤◌, List, [], ◌++◌, length, replicate, take, get_or, refl, sym, ap, arith, Some, length-append, mul_comm}
-use Rattle.std.specs.List.{slice_get, flat_map}
 use Rattle.std.proofs.Math.Nat.{mul-le-mul_left, div-lt_iff_lt-mul}
 use Rattle.std.proofs.lemmas.Option.{slice_get_within, slice_get-get_or, get_or_from_slice_get}
-use Rattle.std.proofs.lemmas.List.{length-take-le, get_or-take, get_or_append_left}
-use Rattle.std.proofs.lemmas.Grind.{flat_map-append}
-use Rattle.logic_four.specs.declared.V4.{V4}
-use Rattle.logic_four.specs.declared.V4.TheVariants.{Zero, One}
-use Rattle.net_defs.specs.declared.netlist.Netlist.{Netlist}
-use Rattle.net_defs.specs.declared.netlist.Driver.{Driver}
+use Rattle.std.proofs.lemmas.{List.length-take-le, List.get_or-take, List.get_or_append_left, Grind.flat_map-append}
+use Rattle.std.specs.List.{slice_get, flat_map}
+use Rattle.logic_four.specs.declared.V4.{V4, TheVariants.Zero, TheVariants.One}
 use Rattle.net_defs.specs.declared.netlist.Driver.TheVariants.{Input, Gate, Dff, BlockBit}
-use Rattle.net_defs.specs.declared.timing.Timing.{Timing}
-use Rattle.net_defs.specs.declared.stimulus.StimRow.{StimRow}
-use Rattle.net_defs.specs.declared.stimulus.Stimulus.{Stimulus}
 use Rattle.net_defs.specs.Time.{value_at, cycle_of, cycle_rows, cycle_count, turn_count, input_at}
 use Rattle.net_defs.specs.Steps.{State, driven, IsRightStep, first_state}
+use Rattle.net_defs.specs.declared.{netlist.Netlist.Netlist, netlist.Driver.Driver, timing.Timing.Timing, stimulus.StimRow.StimRow, stimulus.Stimulus.Stimulus}
 use Rattle.net_defs.specs.Reference.{IsSimulation, HasOneSimulation}
-use Rattle.cover_sim.specs.declared.marks.Marks.{Marks}
 use Rattle.cover_sim.specs.Marks.{end_value, Has, Changes, IsMarked, AreMarks}
-use Rattle.cover_sim.specs.Growth.{AreAmong, IsBeginning}
+use Rattle.cover_sim.specs.{declared.marks.Marks.Marks, Growth.AreAmong, Growth.IsBeginning}
 use Rattle.cover_sim.proofs.MarkLemmas.{has_same, changes_same}
 
 -- what an earlier part of a list has

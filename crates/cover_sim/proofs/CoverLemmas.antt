@@ -1,22 +1,16 @@
 -- The marks that a run was watched for are those of the reference simulation, of which there is one list.
 use Rattle.std.proofs.Common.{◌≡◌, ◌∙◌, inl, inr, ℕ, ◌+◌, ◌-◌, ◌<◌, ◌≤◌, true, List, [], length, map, get_or, refl, sym, ap, subst, arith}
-use Rattle.std.specs.List.{range_with_len}
-use Rattle.std.proofs.lemmas.Option.{slice_get_within, slice_get-get_or, get_or_from_slice_get}
-use Rattle.std.proofs.lemmas.List.{ext_get_or, length-map}
+use Rattle.std.proofs.lemmas.{Option.slice_get_within, Option.slice_get-get_or, Option.get_or_from_slice_get, List.ext_get_or, List.length-map}
 use Rattle.std.proofs.lemmas.List.FromFn.{length-range_with_len, get_or-map-range_with_len}
+use Rattle.std.specs.List.{range_with_len}
 use Rattle.logic_four.specs.declared.V4.{V4}
-use Rattle.net_defs.specs.declared.netlist.Netlist.{Netlist}
-use Rattle.net_defs.specs.declared.timing.Timing.{Timing}
-use Rattle.net_defs.specs.declared.stimulus.Stimulus.{Stimulus}
-use Rattle.net_defs.specs.Time.{value_at, cycle_count}
-use Rattle.net_defs.specs.Loops.{IsCircle}
-use Rattle.net_defs.specs.Reference.{HasOneSimulation}
+use Rattle.net_defs.specs.declared.{netlist.Netlist.Netlist, timing.Timing.Timing, stimulus.Stimulus.Stimulus}
+use Rattle.net_defs.specs.{Time.value_at, Time.cycle_count, Loops.IsCircle, Reference.HasOneSimulation}
 use Rattle.rank_find.proofs.Existence.{order_or_loop}
 use Rattle.ref_sim.specs.Observing.{HasWatched}
 use Rattle.ref_sim.proofs.lemmas.Simulations.{one_along}
-use Rattle.cover_sim.specs.declared.marks.Marks.{Marks}
 use Rattle.cover_sim.specs.Marks.{end_value, IsMarked, AreMarks, HasOneCoverage}
-use Rattle.cover_sim.specs.code.Watching.{no_marks, value_in, HaveMarks}
+use Rattle.cover_sim.specs.{declared.marks.Marks.Marks, code.Watching.no_marks, code.Watching.value_in, code.Watching.HaveMarks}
 use Rattle.cover_sim.proofs.MarkLemmas.{mark_same, marks_made, marks_only}
 
 pub marks_answered : (net : Netlist) (timing : Timing) (stimulus : Stimulus) (marks : List Marks) (last : List V4) → HasOneSimulation net timing stimulus

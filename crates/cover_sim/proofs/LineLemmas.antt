@@ -1,9 +1,7 @@
 -- One more line.
 use Rattle.std.proofs.Common.{◌≡◌, ◌∙◌, sym, ap, ℕ, ◌+◌, ◌<◌, ◌≤◌, List, [], ◌∷◌, ◌++◌, length, take, get_or, arith}
-use Rattle.std.specs.Prelude.{map}
-use Rattle.std.specs.List.{zip}
-use Rattle.std.proofs.lemmas.List.{map_more, take_all}
-use Rattle.std.proofs.lemmas.Slice.Zip.{get_or-zip, length-zip}
+use Rattle.std.proofs.lemmas.{List.map_more, List.take_all, Slice.Zip.get_or-zip, Slice.Zip.length-zip}
+use Rattle.std.specs.{Prelude.map, List.zip}
 
 module _ {A B C : Type 0} (f : A × B → C) (xs : List A) (ys : List B) (k : ℕ) (count : length ys ≡ length xs) where
   pub one_more : (x : A) (y : B) → k < length ys → map f (take k (zip xs ys)) ++ f (get_or xs k x, get_or ys k y) ∷ [] ≡ map f (take (k + 1) (zip xs ys))

@@ -1,11 +1,10 @@
 -- What a cycle more adds to marks; marks are only these, and there are some.
 use Rattle.std.proofs.Common.{◌≡◌, ◌↔◌, ◌∙◌, inl, inr, ℕ, zero, suc, ◌+◌, ◌≤◌, Bool, true, false, ◌&&◌, ◌||◌, IsTrue, refl, sym, ap, subst, arith}
 use Rattle.std.proofs.lemmas.Bool.{cases_lt, or_cases, or_left, or_right, and_parts, and_from}
-use Rattle.logic_four.specs.declared.V4.{V4}
 use Rattle.logic_four.specs.declared.V4.TheVariants.{Zero, One, Undef, HighZ}
-use Rattle.cover_sim.specs.declared.marks.Marks.{Marks}
-use Rattle.cover_sim.specs.Marks.{Has, Changes, IsMarked}
+use Rattle.logic_four.specs.declared.V4.{V4}
 use Rattle.cover_sim.specs.code.Watching.{is_zero, is_one, no_marks, marks_after}
+use Rattle.cover_sim.specs.{declared.marks.Marks.Marks, Marks.Has, Marks.Changes, Marks.IsMarked}
 
 zero_is : (v : V4) → IsTrue (is_zero v) ↔ (v ≡ Zero)
 zero_is Zero = (λ h. refl, λ h. refl)

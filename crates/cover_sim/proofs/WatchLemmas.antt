@@ -1,18 +1,13 @@
 -- The marks of all signals, a cycle more, and one signal after the other.
 use Rattle.std.proofs.Common.{◌≡◌, ◌∙◌, inl, inr, ℕ, ◌+◌, ◌-◌, ◌<◌, ◌≤◌, List, [], ◌∷◌, ◌++◌, length, replicate, get_or, set, refl, sym, ap, subst, arith, Some}
-use Rattle.std.specs.List.{slice_get}
-use Rattle.std.proofs.lemmas.Option.{slice_get_within, slice_get-get_or, get_or_from_slice_get}
 use Rattle.std.proofs.lemmas.List.{length-replicate, length-set, length_push, get_or_append_left, get_or_push, get_or_past, get_or_default}
-use Rattle.list_laws.proofs.Members.{set_same, set_other}
-use Rattle.list_laws.proofs.Options.{one_some}
-use Rattle.list_laws.proofs.Ranges.{last_or, replicate_read}
-use Rattle.logic_four.specs.declared.V4.{V4}
-use Rattle.logic_four.specs.declared.V4.TheVariants.{Undef}
-use Rattle.net_defs.specs.declared.netlist.Netlist.{Netlist}
-use Rattle.net_defs.specs.Time.{value_at}
-use Rattle.cover_sim.specs.declared.marks.Marks.{Marks}
-use Rattle.cover_sim.specs.Marks.{IsMarked}
+use Rattle.std.proofs.lemmas.Option.{slice_get_within, slice_get-get_or, get_or_from_slice_get}
+use Rattle.std.specs.List.{slice_get}
+use Rattle.list_laws.proofs.{Members.set_same, Members.set_other, Options.one_some, Ranges.last_or, Ranges.replicate_read}
+use Rattle.logic_four.specs.declared.V4.{V4, TheVariants.Undef}
+use Rattle.net_defs.specs.{declared.netlist.Netlist.Netlist, Time.value_at}
 use Rattle.cover_sim.specs.code.Watching.{no_marks, marks_after, value_in, HaveMarks, AreMarkedTo}
+use Rattle.cover_sim.specs.{declared.marks.Marks.Marks, Marks.IsMarked}
 use Rattle.cover_sim.proofs.MarkLemmas.{mark_more, mark_none, mark_same}
 
 -- ---- one signal after the other

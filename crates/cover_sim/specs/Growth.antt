@@ -1,14 +1,9 @@
 -- Coverage only grows while a run goes on.
 use Rattle.std.specs.Prelude.{◌≡◌, ℕ, List, ◌++◌, IsTrue, Some, slice_get}
 use Rattle.logic_four.specs.declared.V4.{V4}
-use Rattle.net_defs.specs.declared.netlist.Netlist.{Netlist}
-use Rattle.net_defs.specs.declared.timing.Timing.{Timing}
-use Rattle.net_defs.specs.declared.stimulus.StimRow.{StimRow}
-use Rattle.net_defs.specs.declared.stimulus.Stimulus.{Stimulus}
-use Rattle.net_defs.specs.Time.{cycle_rows}
-use Rattle.net_defs.specs.Loops.{IsCircle}
-use Rattle.cover_sim.specs.declared.marks.Marks.{Marks}
-use Rattle.cover_sim.specs.Marks.{AreMarks}
+use Rattle.net_defs.specs.declared.{netlist.Netlist.Netlist, timing.Timing.Timing, stimulus.StimRow.StimRow, stimulus.Stimulus.Stimulus}
+use Rattle.net_defs.specs.{Time.cycle_rows, Loops.IsCircle}
+use Rattle.cover_sim.specs.{declared.marks.Marks.Marks, Marks.AreMarks}
 
 -- each mark of the first is a mark of the second
 pub record AreAmong (fewer more : Marks) : Type 0 where

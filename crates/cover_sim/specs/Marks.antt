@@ -1,15 +1,9 @@
 -- Coverage: which values each signal has, and which changes it makes, at the ends of the cycles of the
 -- reference simulation. X and Z give no mark, and neither does a change from or to them.
 use Rattle.std.specs.Prelude.{◌≡◌, ◌↔◌, ℕ, ◌+◌, ◌<◌, ◌≤◌, List, length, IsTrue, Some, slice_get}
-use Rattle.logic_four.specs.declared.V4.{V4}
-use Rattle.logic_four.specs.declared.V4.TheVariants.{Zero, One}
-use Rattle.net_defs.specs.declared.netlist.Netlist.{Netlist}
-use Rattle.net_defs.specs.declared.timing.Timing.{Timing}
-use Rattle.net_defs.specs.declared.stimulus.Stimulus.{Stimulus}
-use Rattle.net_defs.specs.Time.{value_at, cycle_count}
-use Rattle.net_defs.specs.Steps.{State}
-use Rattle.net_defs.specs.Loops.{IsCircle}
-use Rattle.net_defs.specs.Reference.{IsSimulation}
+use Rattle.logic_four.specs.declared.V4.{V4, TheVariants.Zero, TheVariants.One}
+use Rattle.net_defs.specs.declared.{netlist.Netlist.Netlist, timing.Timing.Timing, stimulus.Stimulus.Stimulus}
+use Rattle.net_defs.specs.{Time.value_at, Time.cycle_count, Steps.State, Loops.IsCircle, Reference.IsSimulation}
 use Rattle.ref_sim.specs.Observing.{end_row}
 use Rattle.cover_sim.specs.declared.marks.Marks.{Marks}
 

@@ -8,10 +8,8 @@
 #![tactic(auto)]
 
 ghost use Rattle.std.specs.Prelude.{IfOk};
-ghost use Rattle.net_defs.specs.Loops.{AreRanks};
-ghost use Rattle.net_defs.specs.Valid.{IsValid, IsValidTiming};
-ghost use Rattle.cover_sim.specs.Growth.{CutIsBeginning, MarksGrow};
-ghost use Rattle.cover_sim.specs.Marks.{AreMarks, HaveOneCoverage};
+ghost use Rattle.net_defs.specs.{Loops.AreRanks, Valid.IsValid, Valid.IsValidTiming};
+ghost use Rattle.cover_sim.specs.{Growth.CutIsBeginning, Growth.MarksGrow, Marks.AreMarks, Marks.HaveOneCoverage};
 
 mod lines;
 mod marks;

@@ -1,17 +1,12 @@
 -- What holds of each worker holds of all.
 use Rattle.std.proofs.Common.{◌≡◌, ◌∙◌, ◌++◌, ◌+◌, ◌-◌, ◌<◌, ◌≤◌, ℕ, List, [], length, get_or, slice_get, Some, inl, inr, ap, subst, sym, refl, arith, length-append}
-use Rattle.std.proofs.lemmas.Bool.{cases_lt}
-use Rattle.std.proofs.lemmas.Option.{get_or_from_slice_get, slice_get_within}
-use Rattle.list_laws.proofs.Places.{at_front, one_there, slice_past}
-use Rattle.list_laws.proofs.Members.{beside}
-use Rattle.list_laws.proofs.Options.{one_some}
+use Rattle.std.proofs.lemmas.{Bool.cases_lt, Option.get_or_from_slice_get, Option.slice_get_within}
+use Rattle.list_laws.proofs.{Places.at_front, Places.one_there, Places.slice_past, Members.beside, Options.one_some}
 use Rattle.crew_run.specs.declared.gate.Gate as gate
 use Rattle.crew_run.specs.declared.stepper.Stepper as stepper
-use Rattle.crew_run.specs.declared.worker.Worker.{Worker}
-use Rattle.crew_run.specs.Crews.{AllCanRun, AllHaveRun, HasRun}
 use Rattle.crew_run.specs.code.Phases.{AreDone, CanResume, Each, HasBegun, IsResumed}
-use Rattle.crew_run.proofs.PhaseLemmas.{begun_resumed, can_resume, has_run}
-use Rattle.crew_run.proofs.StepLemmas.{untold_none}
+use Rattle.crew_run.specs.{declared.worker.Worker.Worker, Crews.AllCanRun, Crews.AllHaveRun, Crews.HasRun}
+use Rattle.crew_run.proofs.{PhaseLemmas.begun_resumed, PhaseLemmas.can_resume, PhaseLemmas.has_run, StepLemmas.untold_none}
 
 -- what holds of all before a place and of the one that stands there holds of all before the next place
 pub below_more : {X : Type 0} (P : X → Type 0) (xs : List X) (n : ℕ) (x : X) → ((j : ℕ) (y : X) → j < n → slice_get xs j ≡ Some y → P y) → slice_get xs n ≡ Some x → P x → (j : ℕ) (y : X) → j < n + 1 → slice_get xs j ≡ Some y → P y

@@ -1,17 +1,12 @@
 -- Gates go to the workers and come back.
 use Rattle.std.proofs.Common.{◌≡◌, ◌∙◌, ℕ, ◌+◌, ◌≤◌, List, Option, length, set, slice_get, Some, inl, inr, sym, ap, subst, refl, arith}
-use Rattle.std.proofs.lemmas.List.{length-set}
-use Rattle.std.proofs.lemmas.Option.{slice_get_within}
-use Rattle.list_laws.proofs.Places.{one_there}
-use Rattle.list_laws.proofs.Ranges.{last_or}
+use Rattle.std.proofs.lemmas.{List.length-set, Option.slice_get_within}
 use Rattle.list_laws.proofs.Members.{member_at, beside, set_same, set_other}
-use Rattle.list_laws.proofs.Options.{one_some}
+use Rattle.list_laws.proofs.{Places.one_there, Ranges.last_or, Options.one_some}
 use Rattle.crew_run.specs.declared.gate.Gate as gate
 use Rattle.crew_run.specs.declared.stepper.Stepper as stepper
-use Rattle.crew_run.specs.declared.worker.Worker.{Worker}
 use Rattle.crew_run.specs.Crews.{AllCanRun, AllHaveRun, CanRun, HasRun}
-use Rattle.crew_run.specs.Lending.{AllCanRunWith, AllHaveRunWith, lent}
-use Rattle.crew_run.specs.code.Lending.{AreSwapped}
+use Rattle.crew_run.specs.{declared.worker.Worker.Worker, Lending.AllCanRunWith, Lending.AllHaveRunWith, Lending.lent, code.Lending.AreSwapped}
 
 module _ {S G : Type 0} where
   pub swapped_none : (ws : List (Worker S G)) (gates : List (Option G)) → AreSwapped 0 ws gates ws gates

@@ -1,18 +1,13 @@
 -- What phases come to that follow one another.
 use Rattle.std.proofs.Common.{◌≡◌, ◌≢◌, ◌∙◌, ℕ, ◌+◌, List, length, slice_get, Some, inl, inr, sym, ap, subst, arith}
+use Rattle.std.proofs.lemmas.{Bool.cases_lt, Option.slice_get_within}
 use Rattle.std.specs.List.{refill}
-use Rattle.std.proofs.lemmas.Bool.{cases_lt}
-use Rattle.std.proofs.lemmas.Option.{slice_get_within}
-use Rattle.list_laws.proofs.Places.{one_there}
-use Rattle.list_laws.proofs.Ranges.{last_or}
-use Rattle.list_laws.proofs.Members.{beside, refill_whole}
-use Rattle.list_laws.proofs.Options.{one_some}
+use Rattle.list_laws.proofs.{Places.one_there, Ranges.last_or, Members.beside, Members.refill_whole, Options.one_some}
 use Rattle.crew_run.specs.declared.gate.Gate as gate
 use Rattle.crew_run.specs.declared.stepper.Stepper as stepper
-use Rattle.crew_run.specs.declared.worker.Worker.{Worker}
 use Rattle.crew_run.specs.Crews.{AreReady, CanRun, HasRoomToRun, HasRun}
 use Rattle.crew_run.specs.code.Phases.{AreBegun, AreDone, AreStepped, CanResume, CanStep, HasBegun, IsBegun, IsResumed, begun}
-use Rattle.crew_run.specs.Visits.{AreVisits, IsTold, IsUntold}
+use Rattle.crew_run.specs.{declared.worker.Worker.Worker, Visits.AreVisits, Visits.IsTold, Visits.IsUntold}
 use Rattle.crew_run.proofs.StepLemmas.{can_step_kept, stepped_more, untold_more, untold_none}
 
 module _ {S G : Type 0} (m : stepper.Ghosts S) (p : gate.Ghosts G) where

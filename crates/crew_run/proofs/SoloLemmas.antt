@@ -1,17 +1,12 @@
 -- What phases come to that follow one another, of all workers.
 use Rattle.std.proofs.Common.{◌≡◌, ◌∙◌, ℕ, List, set, slice_get, Some, inl, inr, subst, sym, refl}
-use Rattle.std.proofs.lemmas.Bool.{cases_eq}
-use Rattle.std.proofs.lemmas.List.{length-set}
-use Rattle.std.proofs.lemmas.Option.{slice_get_within}
-use Rattle.list_laws.proofs.Places.{one_there}
-use Rattle.list_laws.proofs.Members.{beside, set_same, set_other}
-use Rattle.list_laws.proofs.Options.{one_some}
+use Rattle.std.proofs.lemmas.{Bool.cases_eq, List.length-set, Option.slice_get_within}
+use Rattle.list_laws.proofs.{Places.one_there, Members.beside, Members.set_same, Members.set_other, Options.one_some}
 use Rattle.crew_run.specs.declared.gate.Gate as gate
 use Rattle.crew_run.specs.declared.stepper.Stepper as stepper
-use Rattle.crew_run.specs.declared.worker.Worker.{Worker}
 use Rattle.crew_run.specs.code.Phases.{AreStepped, CanResume, Each, IsResumed}
-use Rattle.crew_run.proofs.PhaseLemmas.{can_step_with}
-use Rattle.crew_run.proofs.StepLemmas.{can_step_kept, stepped_more, stepped_none}
+use Rattle.crew_run.specs.declared.worker.Worker.{Worker}
+use Rattle.crew_run.proofs.{PhaseLemmas.can_step_with, StepLemmas.can_step_kept, StepLemmas.stepped_more, StepLemmas.stepped_none}
 
 module _ {S G : Type 0} (m : stepper.Ghosts S) (p : gate.Ghosts G) where
   -- a worker can resume after each phase

@@ -1,16 +1,12 @@
 -- What steps come to that are made one after another.
 use Rattle.std.proofs.Common.{◌≡◌, ◌≢◌, ◌∙◌, ℕ, ◌+◌, ◌<◌, ◌≤◌, List, set, slice_get, slice_index, Some, inl, inr, sym, ap, subst, refl, arith}
-use Rattle.std.proofs.lemmas.Bool.{cases_eq, cases_lt}
-use Rattle.std.proofs.lemmas.List.{length-set}
-use Rattle.std.proofs.lemmas.Option.{slice_get_within}
+use Rattle.std.proofs.lemmas.{Bool.cases_eq, Bool.cases_lt, List.length-set, Option.slice_get_within}
 use Rattle.limits.specs.declared.TheConstants.{MAX_PORTS}
-use Rattle.list_laws.proofs.Places.{one_there}
-use Rattle.list_laws.proofs.Members.{beside, set_same, set_other}
+use Rattle.list_laws.proofs.{Places.one_there, Members.beside, Members.set_same, Members.set_other}
 use Rattle.crew_run.specs.declared.gate.Gate as gate
 use Rattle.crew_run.specs.declared.stepper.Stepper as stepper
-use Rattle.crew_run.specs.Crews.{AreReady}
 use Rattle.crew_run.specs.code.Phases.{AreStepped, CanStep, Follows, HasRoomFor, IsStepped, Passes, begun}
-use Rattle.crew_run.specs.Visits.{IsElsewhere, IsUntold}
+use Rattle.crew_run.specs.{Crews.AreReady, Visits.IsElsewhere, Visits.IsUntold}
 
 module _ {G : Type 0} (p : gate.Ghosts G) where
   pub untold_none : (q : ℕ) (g : G) → IsUntold p q g g

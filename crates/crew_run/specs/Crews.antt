@@ -3,8 +3,7 @@ use Rattle.std.specs.Prelude.{All, List, Option, Some, length, slice_get, slice_
 use Rattle.limits.specs.declared.TheConstants.{MAX_PORTS}
 use Rattle.crew_run.specs.declared.gate.Gate as gate
 use Rattle.crew_run.specs.declared.stepper.Stepper as stepper
-use Rattle.crew_run.specs.declared.worker.Worker.{Worker}
-use Rattle.crew_run.specs.Visits.{AreVisits}
+use Rattle.crew_run.specs.{declared.worker.Worker.Worker, Visits.AreVisits}
 
 module _ {S : Type 0} (m : stepper.Ghosts S) where
   -- the members of one worker can be stepped, and have ports of their own

@@ -2,8 +2,7 @@
 use Rattle.std.specs.Prelude.{List, Option, Some, length, slice_get, ℕ, ◌≡◌, ◌≤◌}
 use Rattle.crew_run.specs.declared.gate.Gate as gate
 use Rattle.crew_run.specs.declared.stepper.Stepper as stepper
-use Rattle.crew_run.specs.declared.worker.Worker.{Worker}
-use Rattle.crew_run.specs.Crews.{AreReady, CanTellOf, HasRun}
+use Rattle.crew_run.specs.{declared.worker.Worker.Worker, Crews.AreReady, Crews.CanTellOf, Crews.HasRun}
 
 -- the worker with this gate in place of its own
 abbrev pub lent : {S G : Type 0} → Worker S G → Option G → Worker S G

@@ -1,9 +1,9 @@
 //! All workers of a crew, phase after phase.
 
-ghost use Rattle.std.specs.Bool.{OnTrue};
 ghost use Rattle.std.specs.Prelude.{Some, [], length, slice_get, ℕ, ◌<◌, ◌^◌, ◌≡◌, ◌≤◌};
-ghost use Rattle.crew_run.specs.Crews.{AllCanRun, AllHaveRun, CanRun};
+ghost use Rattle.std.specs.Bool.{OnTrue};
 ghost use Rattle.crew_run.specs.code.Phases.{AreDone, CanResume, Each, HasBegun, IsResumed};
+ghost use Rattle.crew_run.specs.Crews.{AllCanRun, AllHaveRun, CanRun};
 
 use crate::gate::Gate;
 use crate::phase::{begin, resume};

@@ -1,9 +1,8 @@
 //! A crew whose gates are lent to its workers for the run.
 
 ghost use Rattle.std.specs.Prelude.{OnErr, OnOk, [], length, ◌++◌, ◌∷◌, ◌≡◌, ◌≤◌};
-ghost use Rattle.crew_run.specs.Crews.{AllCanRun, AreReady, CanRun};
 ghost use Rattle.crew_run.specs.Lending.{AllAreReady, AllCanRunWith, AllHaveRunWith, lent};
-ghost use Rattle.crew_run.specs.code.Lending.{AreSwapped};
+ghost use Rattle.crew_run.specs.{Crews.AllCanRun, Crews.AreReady, Crews.CanRun, code.Lending.AreSwapped};
 
 use crate::crew::run_all;
 use crate::gate::Gate;

@@ -2,9 +2,8 @@
 
 ghost use Rattle.std.specs.Prelude.{Some, length, slice_get, ℕ, ◌+◌, ◌<◌, ◌^◌, ◌≡◌, ◌≢◌, ◌≤◌};
 ghost use Rattle.limits.specs.declared.TheConstants.{MAX_PORTS};
-ghost use Rattle.crew_run.specs.Crews.{AreReady, CanRun, HasRoomToRun};
 ghost use Rattle.crew_run.specs.code.Phases.{AreBegun, AreStepped, CanResume, CanStep, HasBegun, HasRoomFor, IsBegun, IsResumed, IsStepped};
-ghost use Rattle.crew_run.specs.Visits.{IsUntold};
+ghost use Rattle.crew_run.specs.{Crews.AreReady, Crews.CanRun, Crews.HasRoomToRun, Visits.IsUntold};
 
 use crate::gate::Gate;
 use crate::pace::Pace;

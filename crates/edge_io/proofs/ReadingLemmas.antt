@@ -1,12 +1,8 @@
 -- Lemmas on the counts of a store while a whole file is read.
 use Rattle.std.proofs.Common.{◌≡◌, ◌∙◌, refl, ap, sym, subst, arith, ℕ, ◌+◌, ◌<◌, ◌≤◌, Bool, true, false, List, ◌++◌, length, take, length-append, Option, None, Some, Ok, Err}
-use Rattle.std.specs.Option.{IfSome}
-use Rattle.std.specs.Io.KnownBytes.{Consumes}
-use Rattle.std.proofs.KnownBytes.{Consumes-trans}
-use Rattle.std.proofs.lemmas.List.{take-append-le, length-take-le}
-use Rattle.edge_io.specs.Counts.{raised, raised_if}
-use Rattle.edge_io.specs.FileCounts.{CountsFaults, CountsRead}
-use Rattle.edge_io.specs.code.FileCounts.{CountsReads}
+use Rattle.std.proofs.{KnownBytes.Consumes-trans, lemmas.List.take-append-le, lemmas.List.length-take-le}
+use Rattle.std.specs.{Option.IfSome, Io.KnownBytes.Consumes}
+use Rattle.edge_io.specs.{Counts.raised, Counts.raised_if, FileCounts.CountsFaults, FileCounts.CountsRead, code.FileCounts.CountsReads}
 use Rattle.edge_io.specs.declared.counts.FileCounts.{FileCounts}
 use Rattle.edge_io.specs.declared.reading.ReadNo.TheVariants as no
 use Rattle.edge_io.proofs.lemmas.WritingLemmas.{rose_since}

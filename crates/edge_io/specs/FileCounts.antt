@@ -1,8 +1,6 @@
 -- What calls do to the counts of a store of files.
 use Rattle.std.specs.Prelude.{◌≡◌, ℕ, ◌+◌, ◌≤◌, Bool, true, false, IsTrue, List, length, Result, Ok, Err}
-use Rattle.edge_io.specs.Counts.{raised, raised_if, Rose}
-use Rattle.edge_io.specs.declared.counts.FileCounts.{FileCounts}
-use Rattle.edge_io.specs.declared.Failed.{Failed}
+use Rattle.edge_io.specs.{Counts.raised, Counts.raised_if, Counts.Rose, declared.counts.FileCounts.FileCounts, declared.Failed.Failed}
 use Rattle.edge_io.specs.declared.reading.ReadNo.{ReadNo}
 use Rattle.edge_io.specs.declared.reading.ReadNo.TheVariants as no
 

@@ -1,8 +1,6 @@
 -- A sink with room in memory.
 use Rattle.std.specs.Prelude.{ℕ, ◌-◌, ◌==◌, min, List, [], ◌++◌, length, take, Bool, not, ◌||◌, ◌&&◌}
-use Rattle.edge_io.specs.Counts.{raised}
-use Rattle.edge_io.specs.declared.script.Script.{Script}
-use Rattle.edge_io.specs.Script.{next_fails, called}
+use Rattle.edge_io.specs.{Counts.raised, declared.script.Script.Script, Script.next_fails, Script.called}
 
 -- the bytes taken, the room left, the most that one call takes, the calls that fail, and the faults
 pub record MemRoom : Type 0 where

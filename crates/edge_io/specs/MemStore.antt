@@ -1,10 +1,8 @@
 -- A store of files in memory.
 use Rattle.std.specs.Prelude.{ℕ, List, [], length, drop, min, Bool, not, ◌||◌, if◌then◌else◌, Option, None, Some, is_some, position, slice_get, bytes_eq}
 use Rattle.std.specs.Option.{option_map_or}
-use Rattle.edge_io.specs.declared.counts.FileCounts.{FileCounts}
-use Rattle.edge_io.specs.declared.script.Script.{Script}
-use Rattle.edge_io.specs.declared.mem_files.NamedBytes.{NamedBytes}
 use Rattle.edge_io.specs.FileCounts.{no_calls, after_start, after_read, after_failed_read}
+use Rattle.edge_io.specs.declared.{counts.FileCounts.FileCounts, script.Script.Script, mem_files.NamedBytes.NamedBytes}
 use Rattle.edge_io.specs.Script.{next_fails, called}
 
 -- the files, the calls that fail, the most bytes that one read gives (where there is such a number), what is left

@@ -1,9 +1,7 @@
 -- A store of files in memory in which every name is there.
 use Rattle.std.specs.Prelude.{ℕ, List, [], drop, Bool, true, false}
-use Rattle.edge_io.specs.declared.counts.FileCounts.{FileCounts}
-use Rattle.edge_io.specs.declared.mem_files.NamedBytes.{NamedBytes}
-use Rattle.edge_io.specs.FileCounts.{no_calls, after_start, after_read}
-use Rattle.edge_io.specs.MemStore.{bytes_named}
+use Rattle.edge_io.specs.declared.{counts.FileCounts.FileCounts, mem_files.NamedBytes.NamedBytes}
+use Rattle.edge_io.specs.{FileCounts.no_calls, FileCounts.after_start, FileCounts.after_read, MemStore.bytes_named}
 
 -- the files, what is left of the file begun, and the counts
 pub record PlainStore : Type 0 where

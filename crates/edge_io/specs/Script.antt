@@ -1,8 +1,6 @@
 -- Calls that fail by their number.
-use Rattle.std.specs.Prelude.{Bool, ◌==◌}
-use Rattle.std.specs.List.{list_any}
-use Rattle.edge_io.specs.Counts.{raised}
-use Rattle.edge_io.specs.declared.script.Script.{Script}
+use Rattle.std.specs.{Prelude.Bool, Prelude.◌==◌, List.list_any}
+use Rattle.edge_io.specs.{Counts.raised, declared.script.Script.Script}
 
 -- whether the next call is one of those that fail
 abbrev pub next_fails : Script → Bool

@@ -1,7 +1,6 @@
 -- What calls do to the counts of a sink.
 use Rattle.std.specs.Prelude.{Bool}
-use Rattle.edge_io.specs.Counts.{raised, raised_if}
-use Rattle.edge_io.specs.declared.counts.SinkCounts.{SinkCounts}
+use Rattle.edge_io.specs.{Counts.raised, Counts.raised_if, declared.counts.SinkCounts.SinkCounts}
 
 -- before the first call
 abbrev pub no_writes : SinkCounts

@@ -1,9 +1,7 @@
 -- What writes do to the bytes that a sink has taken, where those are told.
 use Rattle.std.specs.Prelude.{◌≡◌, ◌⊎◌, ℕ, ◌<◌, ◌≤◌, List, length, take, Option, Result, OnOk, OnErr}
-use Rattle.std.specs.List.{flat_map}
-use Rattle.std.specs.Io.KnownBytes.{append_known}
-use Rattle.edge_io.specs.Counts.{Rose}
-use Rattle.edge_io.specs.declared.writing.WriteNo.{WriteNo}
+use Rattle.std.specs.{List.flat_map, Io.KnownBytes.append_known}
+use Rattle.edge_io.specs.{Counts.Rose, declared.writing.WriteNo.WriteNo}
 use Rattle.edge_io.specs.declared.sink.Sink as sink
 
 -- a proper prefix of the piece was taken

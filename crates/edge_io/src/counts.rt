@@ -1,9 +1,8 @@
 //! Counts of calls and faults, which stand still at the last value of a `u64`.
 
 ghost use Rattle.std.specs.Prelude.{◌≡◌};
-ghost use Rattle.edge_io.specs.Counts.{raised};
 ghost use Rattle.edge_io.specs.FileCounts.{no_calls, after_start, after_read, after_failed_read};
-ghost use Rattle.edge_io.specs.SinkCounts.{no_writes, after_write};
+ghost use Rattle.edge_io.specs.{Counts.raised, SinkCounts.no_writes, SinkCounts.after_write};
 
 /// The counts of a store of files, each of which stands still at its last value.
 #[derive(Clone, Copy)]

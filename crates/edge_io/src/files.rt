@@ -1,10 +1,8 @@
 //! A store of files.
 
 ghost use Rattle.std.specs.Prelude.{◌≡◌, ℕ, Option, ◌≤◌, List, Bool, length, IfOk, OnOk, IsErr, is_err};
-ghost use Rattle.edge_io.specs.declared.counts.FileCounts.{FileCounts};
 ghost use Rattle.edge_io.specs.FileCounts.{CountsFaults, CountsStart, CountsRead, bytes_given};
-ghost use Rattle.edge_io.specs.Names.{is_absent, IsAbsent, OfTold};
-ghost use Rattle.edge_io.specs.Reading.{Gives};
+ghost use Rattle.edge_io.specs.{declared.counts.FileCounts.FileCounts, Names.is_absent, Names.IsAbsent, Names.OfTold, Reading.Gives};
 
 use crate::Failed;
 

@@ -1,8 +1,7 @@
 //! A store of files in memory, with calls that fail by their number.
 
 ghost use Rattle.std.specs.Prelude.{◌≡◌, ◌<◌, ◌≤◌, Some, length, take, drop, ◌++◌, IfOk, IfSome, is_err, MatchResult};
-ghost use Rattle.edge_io.specs.Script.{next_fails};
-ghost use Rattle.edge_io.specs.MemStore.{place_named, bytes_at, at_most};
+ghost use Rattle.edge_io.specs.{Script.next_fails, MemStore.place_named, MemStore.bytes_at, MemStore.at_most};
 
 use crate::counts::FileCounts;
 use crate::script::Script;

@@ -22,8 +22,7 @@ pub struct PlainFiles {
 
 impl Model for PlainFiles {
     ghost use Rattle.std.specs.Prelude.{◌≤◌, length, drop};
-    ghost use Rattle.edge_io.specs.MemStore.{bytes_at};
-    ghost use Rattle.edge_io.specs.PlainStore.{PlainStore};
+    ghost use Rattle.edge_io.specs.{MemStore.bytes_at, PlainStore.PlainStore};
 
     ghost Value = { PlainStore };
 
@@ -54,8 +53,7 @@ impl PlainFiles {
 
 impl Files for PlainFiles {
     ghost use Rattle.std.specs.Prelude.{Some};
-    ghost use Rattle.edge_io.specs.MemStore.{bytes_named};
-    ghost use Rattle.edge_io.specs.PlainStore.{has_name, started, read_past};
+    ghost use Rattle.edge_io.specs.{MemStore.bytes_named, PlainStore.has_name, PlainStore.started, PlainStore.read_past};
 
     ghost names = { λ _. Some has_name };
 

@@ -16,8 +16,7 @@ pub struct PlainSink {
 }
 
 impl Model for PlainSink {
-    ghost use Rattle.std.specs.Prelude.{◌+◌, ◌≤◌, vec_len};
-    ghost use Rattle.std.specs.Vec.{vec_capacity};
+    ghost use Rattle.std.specs.{Prelude.◌+◌, Prelude.◌≤◌, Prelude.vec_len, Vec.vec_capacity};
     ghost use Rattle.edge_io.specs.PlainRoom.{PlainRoom};
 
     ghost Value = { PlainRoom };

@@ -1,9 +1,7 @@
 //! The reading of a whole file.
 
 ghost use Rattle.std.specs.Prelude.{◌≡◌, ◌+◌, ◌-◌, ◌^◌, ◌<◌, ◌≤◌, ◌++◌, length, IfOk, IfSome, OnOk};
-ghost use Rattle.edge_io.specs.Names.{is_absent, IsAbsent, OfTold};
-ghost use Rattle.edge_io.specs.FileCounts.{CountsFile};
-ghost use Rattle.edge_io.specs.code.FileCounts.{CountsReads};
+ghost use Rattle.edge_io.specs.{Names.is_absent, Names.IsAbsent, Names.OfTold, FileCounts.CountsFile, code.FileCounts.CountsReads};
 
 use crate::{Failed, Files};
 use seen_list::{List, Memory};

@@ -2,8 +2,7 @@
 
 ghost use Rattle.std.specs.Prelude.{◌≡◌, ◌≤◌, [], length, OnOk, OnErr, IsOk};
 ghost use Rattle.std.specs.Io.KnownBytes.{append_known};
-ghost use Rattle.edge_io.specs.Counts.{raised, Rose};
-ghost use Rattle.edge_io.specs.Writing.{TakesProperPrefix};
+ghost use Rattle.edge_io.specs.{Counts.raised, Counts.Rose, Writing.TakesProperPrefix};
 
 use crate::{Failed, Sink};
 

@@ -1,18 +1,14 @@
 -- Each event that moves leaves fewer events, so a run has no more than its number.
 use Rattle.std.proofs.Common.{Bool, List, Some, [], add-one, ap, arith, false, get_or-set_other, get_or-set_same, if◌then◌else◌, inl, inr, le-leb, length, nat_le, slice_get, subst, suc-mul, sym, true, zero-mul, ℕ, ◌*◌, ◌++◌, ◌+◌, ◌-◌, ◌<◌, ◌∙◌, ◌∷◌, ◌≡◌, ◌≤◌}
-use Rattle.std.proofs.lemmas.Bool.{cases_lt, lt-leb}
-use Rattle.std.proofs.lemmas.List.{length-map}
+use Rattle.std.proofs.lemmas.{Bool.cases_lt, Bool.lt-leb, List.length-map}
 use Rattle.image_defs.proofs.lemmas.PlaceLemmas.{Rises, at_map}
-use Rattle.image_defs.specs.Places.{in_slots, out_slots}
-use Rattle.image_defs.specs.declared.image.LinkIn.{LinkIn}
-use Rattle.image_defs.specs.declared.image.LinkOut.{LinkOut}
+use Rattle.image_defs.specs.{Places.in_slots, Places.out_slots, declared.image.LinkIn.LinkIn, declared.image.LinkOut.LinkOut}
 use Rattle.image_defs.specs.declared.image.PortImage.{PortImage}
-use Rattle.event_defs.proofs.lemmas.SlotLemmas.{to_map}
 use Rattle.event_defs.proofs.SumLemmas.{all_missing, missing_falls, none_missing, sum_falls}
+use Rattle.event_defs.proofs.lemmas.SlotLemmas.{to_map}
 use Rattle.event_defs.specs.Counts.{asks_left, is_read_by, missing, port_left, work_left, work_of}
-use Rattle.event_defs.specs.Next.{EndsNext}
 use Rattle.event_defs.specs.Places.{after_ask, after_put, after_take, after_tell, is_in, known_of}
-use Rattle.event_defs.specs.declared.place.Place.{Place}
+use Rattle.event_defs.specs.{Next.EndsNext, declared.place.Place.Place}
 
 pub from_test : (b : Bool) (x y : ℕ) → b ≡ true → (if b then x else y) ≡ x
 from_test b x y e = ap {A = Bool} {B = ℕ} (λ c. if c then x else y) e

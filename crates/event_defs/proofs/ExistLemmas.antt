@@ -1,33 +1,20 @@
 -- There is a next event, and a step of each port.
 use Rattle.std.proofs.Common.{List, None, Some, [], ap, arith, false, inl, inr, le_of_eq, length, map, refl, slice_get, slice_index_or, subst, suc, sym, true, zero, ℕ, ◌%◌, ◌*◌, ◌+◌, ◌<◌, ◌∙◌, ◌∷◌, ◌≡◌, ◌≢◌, ◌≤◌, ◌⊎◌}
-use Rattle.std.proofs.lemmas.Bool.{cases_Bool, cases_eq, cases_lt}
-use Rattle.std.proofs.lemmas.Option.{slice_get_cases}
+use Rattle.std.proofs.lemmas.{Bool.cases_Bool, Bool.cases_eq, Bool.cases_lt, Option.slice_get_cases}
 use Rattle.std.specs.List.Sorted.{IsStrictlyIncreasing}
-use Rattle.logic_four.specs.Values.{code_of}
-use Rattle.logic_four.specs.declared.V4.{V4}
+use Rattle.logic_four.specs.{Values.code_of, declared.V4.V4}
 use Rattle.net_defs.specs.declared.stimulus.Stimulus.{Stimulus}
 use Rattle.image_defs.proofs.lemmas.PlaceLemmas.{at_map, rises}
-use Rattle.image_defs.specs.Frames.{image_value}
-use Rattle.image_defs.specs.Places.{Each, IsPort, Stands}
-use Rattle.image_defs.specs.WellFormed.{IsWellFormed}
-use Rattle.image_defs.specs.declared.image.Image.{Image}
-use Rattle.image_defs.specs.declared.image.LinkIn.{LinkIn}
-use Rattle.image_defs.specs.declared.image.LinkOut.{LinkOut}
-use Rattle.image_defs.specs.declared.image.PortImage.{PortImage}
-use Rattle.event_defs.proofs.lemmas.KeptLemmas.{read_stamp, step_sound}
-use Rattle.event_defs.proofs.lemmas.PaceLemmas.{inside, source}
-use Rattle.event_defs.proofs.lemmas.SlotLemmas.{to_map}
-use Rattle.event_defs.specs.Counts.{missing}
+use Rattle.image_defs.specs.{Frames.image_value, Places.Each, Places.IsPort, Places.Stands, WellFormed.IsWellFormed, declared.image.Image.Image}
+use Rattle.image_defs.specs.declared.image.{LinkIn.LinkIn, LinkOut.LinkOut, PortImage.PortImage}
+use Rattle.event_defs.proofs.lemmas.{KeptLemmas.read_stamp, KeptLemmas.step_sound, PaceLemmas.inside, PaceLemmas.source, SlotLemmas.to_map}
 use Rattle.event_defs.specs.Next.{EndsNext, IsDoneBelow, IsNext, ReceivesNext, SendsNext}
 use Rattle.event_defs.specs.Places.{after_ask, after_put, after_take, after_tell, is_in, known_of}
-use Rattle.event_defs.specs.Sound.{IsSound}
 use Rattle.event_defs.specs.Steps.{AreSteps, CoreState, IsStep, Reads, updated, written}
-use Rattle.event_defs.specs.declared.place.Action.{Action}
-use Rattle.event_defs.specs.declared.place.CoreStep.{CoreStep}
-use Rattle.event_defs.specs.declared.place.Place.{Place}
+use Rattle.event_defs.specs.{Counts.missing, Sound.IsSound, declared.place.Action.Action, declared.place.CoreStep.CoreStep, declared.place.Place.Place}
+use Rattle.event_defs.specs.declared.place.CoreStep.TheVariants.{Moved, NotYet, Done}
 use Rattle.event_defs.specs.declared.place.Action.TheVariants as action
 use Rattle.event_defs.specs.declared.place.Event.TheVariants as event
-use Rattle.event_defs.specs.declared.place.CoreStep.TheVariants.{Moved, NotYet, Done}
 
 -- a number stands in a list, or differs from each of its members
 find_slot : (slots : List ℕ) (s : ℕ) → (Stands slots s) ⊎ ((i t : ℕ) → slice_get slots i ≡ Some t → t ≢ s)

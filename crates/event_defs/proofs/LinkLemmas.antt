@@ -1,31 +1,18 @@
 -- Images that are linked alike make the same steps.
 use Rattle.std.proofs.Common.{List, Some, [], ap, ap₂, arith, inl, inr, length, refl, slice_get, subst, sym, ℕ, ◌%◌, ◌-◌, ◌/◌, ◌∙◌, ◌∷◌, ◌≡◌, ◌≤◌}
-use Rattle.std.proofs.Math.Path.{fun_ext}
-use Rattle.std.proofs.lemmas.Option.{slice_get_cases, slice_get_within}
+use Rattle.std.proofs.{Math.Path.fun_ext, lemmas.Option.slice_get_cases, lemmas.Option.slice_get_within}
 use Rattle.logic_four.specs.declared.V4.TheVariants.{Undef}
 use Rattle.net_defs.specs.declared.stimulus.Stimulus.{Stimulus}
-use Rattle.image_defs.specs.Places.{IsPort}
-use Rattle.image_defs.specs.WellFormed.{IsWellFormed}
-use Rattle.image_defs.specs.declared.image.Image.{Image}
-use Rattle.image_defs.specs.declared.image.LinkIn.{LinkIn}
-use Rattle.image_defs.specs.declared.image.LinkOut.{LinkOut}
+use Rattle.image_defs.specs.{Places.IsPort, WellFormed.IsWellFormed, declared.image.Image.Image, declared.image.LinkIn.LinkIn, declared.image.LinkOut.LinkOut}
 use Rattle.image_defs.specs.declared.image.PortImage.{PortImage}
 use Rattle.event_defs.proofs.lemmas.AlikeLemmas.{Summed, answered, next_alike, placed, receives_alike, stamped, summed, told}
-use Rattle.event_defs.proofs.lemmas.KeptLemmas.{starts_sound, step_sound}
-use Rattle.event_defs.proofs.lemmas.NextLemmas.{one_next, receives_one}
-use Rattle.event_defs.proofs.lemmas.PaceLemmas.{same_send}
-use Rattle.event_defs.specs.Linked.{AreLinkedAlike, ArePortsAlike}
-use Rattle.event_defs.specs.code.Linked.{AreAlike}
-use Rattle.event_defs.specs.Next.{IsNext, ReceivesNext}
-use Rattle.event_defs.specs.Places.{IsSend, start}
-use Rattle.event_defs.specs.Sound.{IsSound}
+use Rattle.event_defs.proofs.lemmas.{KeptLemmas.starts_sound, KeptLemmas.step_sound, NextLemmas.one_next, NextLemmas.receives_one, PaceLemmas.same_send}
 use Rattle.event_defs.specs.Steps.{AreFirstSteps, AreSteps, CoreState, Reads, first_state, rows_done, stamp_of, updated}
-use Rattle.event_defs.specs.declared.place.Action.{Action}
-use Rattle.event_defs.specs.declared.place.CoreStep.{CoreStep}
-use Rattle.event_defs.specs.declared.place.Place.{Place}
+use Rattle.event_defs.specs.{Linked.AreLinkedAlike, Linked.ArePortsAlike, code.Linked.AreAlike, Next.IsNext, Next.ReceivesNext, Places.IsSend, Places.start}
+use Rattle.event_defs.specs.{Sound.IsSound, declared.place.Action.Action, declared.place.CoreStep.CoreStep, declared.place.Place.Place}
+use Rattle.event_defs.specs.declared.place.CoreStep.TheVariants.{Moved, NotYet, Done}
 use Rattle.event_defs.specs.declared.place.Action.TheVariants as action
 use Rattle.event_defs.specs.declared.place.Event.TheVariants as event
-use Rattle.event_defs.specs.declared.place.CoreStep.TheVariants.{Moved, NotYet, Done}
 
 flip : (one other : PortImage) → ArePortsAlike one other → ArePortsAlike other one
 flip one other alike = record { outs = sym alike.outs; ins = sym alike.ins }

@@ -1,28 +1,15 @@
 -- The numbers of sends and of sources.
 use Rattle.std.proofs.Common.{List, None, Option, Some, [], add-one, ap, ap₂, arith, eqb, eqb-true, inl, inr, length, refl, slice_get, slice_index_or, subst, sym, true, ℕ, ◌*◌, ◌++◌, ◌+◌, ◌<◌, ◌^◌, ◌∙◌, ◌∷◌, ◌≡◌, ◌≤◌}
-use Rattle.std.proofs.lemmas.Bool.{cases_lt, cases_order}
-use Rattle.std.proofs.lemmas.Bool.Decides.{Decides-eqb}
-use Rattle.std.proofs.lemmas.List.{length-map, length_push}
-use Rattle.std.proofs.lemmas.List.Kept.{AllPairs-from_increasing}
-use Rattle.std.proofs.lemmas.Map.Made.{IsDistinct-from_AllPairs}
-use Rattle.std.proofs.lemmas.Map.Steps.{length-le_from_distinct_below}
+use Rattle.std.proofs.lemmas.{Bool.cases_lt, Bool.cases_order, Bool.Decides.Decides-eqb, List.length-map, List.length_push, List.Kept.AllPairs-from_increasing}
+use Rattle.std.proofs.lemmas.Map.{Made.IsDistinct-from_AllPairs, Steps.length-le_from_distinct_below}
 use Rattle.std.proofs.lemmas.Option.{get_or_from_slice_get, slice_get-get_or, slice_get_within}
-use Rattle.std.specs.List.{list_any}
-use Rattle.std.specs.List.Sorted.{IsStrictlyIncreasing}
+use Rattle.std.specs.List.{list_any, Sorted.IsStrictlyIncreasing}
 use Rattle.list_laws.proofs.Places.{at_front, seam_at}
 use Rattle.image_defs.proofs.lemmas.PlaceLemmas.{at_map, rises}
-use Rattle.image_defs.specs.Places.{IsPort, out_slots}
-use Rattle.image_defs.specs.WellFormed.{IsLinkIn, IsWellFormed}
-use Rattle.image_defs.specs.declared.image.Image.{Image}
-use Rattle.image_defs.specs.declared.image.LinkIn.{LinkIn}
-use Rattle.image_defs.specs.declared.image.LinkOut.{LinkOut}
-use Rattle.image_defs.specs.declared.image.PortImage.{PortImage}
-use Rattle.event_defs.proofs.lemmas.PaceLemmas.{same_port, source}
-use Rattle.event_defs.proofs.lemmas.RowLemmas.{sends_are, sum_small}
-use Rattle.event_defs.proofs.lemmas.SlotLemmas.{any_at, to_map}
-use Rattle.event_defs.specs.Counts.{of_port, sum_to}
-use Rattle.event_defs.specs.Row.{sends_before, sends_of}
-use Rattle.event_defs.specs.Sources.{AreFirsts, AreSources, IsSource}
+use Rattle.image_defs.specs.{Places.IsPort, Places.out_slots, WellFormed.IsLinkIn, WellFormed.IsWellFormed, declared.image.Image.Image}
+use Rattle.image_defs.specs.declared.image.{LinkIn.LinkIn, LinkOut.LinkOut, PortImage.PortImage}
+use Rattle.event_defs.proofs.lemmas.{PaceLemmas.same_port, PaceLemmas.source, RowLemmas.sends_are, RowLemmas.sum_small, SlotLemmas.any_at, SlotLemmas.to_map}
+use Rattle.event_defs.specs.{Counts.of_port, Counts.sum_to, Row.sends_before, Row.sends_of, Sources.AreFirsts, Sources.AreSources, Sources.IsSource}
 use Rattle.event_defs.specs.code.Sources.{CountsSends, IsLinkAt, StandsBetween}
 
 -- a member that was read within the list

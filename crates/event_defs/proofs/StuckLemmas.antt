@@ -3,26 +3,15 @@ use Rattle.std.proofs.Common.{None, Some, ap, arith, false, inl, inr, le_of_eq, 
 use Rattle.std.proofs.lemmas.Bool.{cases_Bool, cases_eq, cases_lt, cases_order}
 use Rattle.std.proofs.lemmas.Option.{slice_get_cases, slice_get_within}
 use Rattle.net_defs.specs.declared.stimulus.Stimulus.{Stimulus}
-use Rattle.image_defs.specs.Places.{IsPort}
-use Rattle.image_defs.specs.WellFormed.{IsWellFormed}
-use Rattle.image_defs.specs.declared.image.Image.{Image}
-use Rattle.image_defs.specs.declared.image.LinkIn.{LinkIn}
-use Rattle.image_defs.specs.declared.image.LinkOut.{LinkOut}
+use Rattle.image_defs.specs.{Places.IsPort, WellFormed.IsWellFormed, declared.image.Image.Image, declared.image.LinkIn.LinkIn, declared.image.LinkOut.LinkOut}
 use Rattle.image_defs.specs.declared.image.PortImage.{PortImage}
-use Rattle.event_defs.proofs.ExistLemmas.{step_exists, whole}
-use Rattle.event_defs.proofs.lemmas.KeptLemmas.{read_stamp, reads_send}
 use Rattle.event_defs.proofs.lemmas.NextLemmas.{receives_not_ends, receives_one, sends_not_ends, sends_not_receives, sends_one}
-use Rattle.event_defs.proofs.lemmas.PaceLemmas.{latest_missing, latest_put, reader_port}
-use Rattle.event_defs.proofs.lemmas.SlotLemmas.{to_map}
-use Rattle.event_defs.specs.Foremost.{ComesBefore, IsForemost, SendsAt}
-use Rattle.event_defs.specs.Next.{AsksNext, TakesNext, TellsNext}
-use Rattle.event_defs.specs.Places.{IsSend, is_in, latest}
-use Rattle.event_defs.specs.Sound.{IsSound}
+use Rattle.event_defs.proofs.{ExistLemmas.step_exists, ExistLemmas.whole, lemmas.KeptLemmas.read_stamp, lemmas.KeptLemmas.reads_send}
+use Rattle.event_defs.proofs.lemmas.{PaceLemmas.latest_missing, PaceLemmas.latest_put, PaceLemmas.reader_port, SlotLemmas.to_map}
 use Rattle.event_defs.specs.Steps.{AllDone, AllIdle, AskWaits, CoreState, IsStep, Reads, TakeWaits, Waits}
-use Rattle.event_defs.specs.declared.place.CoreStep.{CoreStep}
-use Rattle.event_defs.specs.declared.place.CoreStep.TheVariants.{Done, Moved, NotYet}
-use Rattle.event_defs.specs.declared.place.Event.{Event}
-use Rattle.event_defs.specs.declared.place.Place.{Place}
+use Rattle.event_defs.specs.{Foremost.ComesBefore, Foremost.IsForemost, Foremost.SendsAt, Next.AsksNext, Next.TakesNext, Next.TellsNext}
+use Rattle.event_defs.specs.{Places.IsSend, Places.is_in, Places.latest, Sound.IsSound, declared.place.CoreStep.CoreStep}
+use Rattle.event_defs.specs.declared.place.{CoreStep.TheVariants.Done, CoreStep.TheVariants.Moved, CoreStep.TheVariants.NotYet, Event.Event, Place.Place}
 
 -- of so many pairs of numbers the least, by the first and then by the second
 least_of : (n : ℕ) (f g : ℕ → ℕ) → 1 ≤ n → (p : ℕ) × (p < n) × ((q : ℕ) → q < n → (f p < f q) ⊎ ((f p ≡ f q) × (g p ≤ g q)))

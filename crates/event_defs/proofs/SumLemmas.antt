@@ -4,8 +4,7 @@ use Rattle.std.proofs.lemmas.Bool.{cases_eq}
 use Rattle.image_defs.proofs.lemmas.PlaceLemmas.{Rises}
 use Rattle.image_defs.specs.Places.{Each}
 use Rattle.event_defs.proofs.lemmas.SlotLemmas.{in_last, in_other}
-use Rattle.event_defs.specs.Counts.{missing, sum_to}
-use Rattle.event_defs.specs.Places.{is_in}
+use Rattle.event_defs.specs.{Counts.missing, Counts.sum_to, Places.is_in}
 
 pub sum_same : (n : ℕ) (f g : ℕ → ℕ) → ((q : ℕ) → q < n → f q ≡ g q) → sum_to n f ≡ sum_to n g
 unfolding sum_to

@@ -1,13 +1,9 @@
 -- How many events a run has.
 use Rattle.std.specs.Prelude.{Bool, List, None, Option, Some, [], if◌then◌else◌, length, nat_le, slice_get, suc, zero, ℕ, ◌*◌, ◌+◌, ◌-◌, ◌∷◌}
 use Rattle.std.specs.List.{list_any}
-use Rattle.image_defs.specs.Places.{in_slots, out_slots}
-use Rattle.image_defs.specs.declared.image.Image.{Image}
-use Rattle.image_defs.specs.declared.image.PortImage.{PortImage}
-use Rattle.event_defs.specs.Places.{is_in, known_of}
-use Rattle.event_defs.specs.declared.place.CoreStep.{CoreStep}
-use Rattle.event_defs.specs.declared.place.CoreStep.TheVariants.{Done, Moved, NotYet}
-use Rattle.event_defs.specs.declared.place.Place.{Place}
+use Rattle.image_defs.specs.{Places.in_slots, Places.out_slots, declared.image.Image.Image, declared.image.PortImage.PortImage}
+use Rattle.event_defs.specs.{Places.is_in, Places.known_of, declared.place.CoreStep.CoreStep}
+use Rattle.event_defs.specs.declared.place.{CoreStep.TheVariants.Done, CoreStep.TheVariants.Moved, CoreStep.TheVariants.NotYet, Place.Place}
 
 -- the sum of the first n of these numbers
 unfoldable pub sum_to : ℕ → (ℕ → ℕ) → ℕ

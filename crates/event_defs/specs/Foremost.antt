@@ -1,12 +1,7 @@
 -- Which port is the foremost: the one in the least turn, and there the one whose next event comes first in a turn.
 use Rattle.std.specs.Prelude.{◌≡◌, ℕ, ◌<◌, ◌≤◌, ◌⊎◌}
-use Rattle.image_defs.specs.Places.{IsPort}
-use Rattle.image_defs.specs.declared.image.Image.{Image}
-use Rattle.image_defs.specs.declared.image.LinkOut.{LinkOut}
-use Rattle.image_defs.specs.declared.image.PortImage.{PortImage}
-use Rattle.event_defs.specs.Next.{SendsNext, TakesNext, TellsNext}
-use Rattle.event_defs.specs.Steps.{CoreState}
-use Rattle.event_defs.specs.declared.place.Place.{Place}
+use Rattle.image_defs.specs.{Places.IsPort, declared.image.Image.Image, declared.image.LinkOut.LinkOut, declared.image.PortImage.PortImage}
+use Rattle.event_defs.specs.{Next.SendsNext, Next.TakesNext, Next.TellsNext, Steps.CoreState, declared.place.Place.Place}
 
 module _ (port : PortImage) (place : Place) where
   -- its next event is an Ask or a Put: what it sends in this slot

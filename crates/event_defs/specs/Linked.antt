@@ -1,8 +1,6 @@
 -- Images whose ports send and receive alike, whatever they compute.
 use Rattle.std.specs.Prelude.{◌≡◌, ℕ, length}
-use Rattle.image_defs.specs.declared.image.PortImage.{PortImage}
-use Rattle.image_defs.specs.declared.image.Image.{Image}
-use Rattle.image_defs.specs.Places.{IsPort}
+use Rattle.image_defs.specs.{declared.image.PortImage.PortImage, declared.image.Image.Image, Places.IsPort}
 
 -- port p of both sends and receives the same
 pub record ArePortsAlike (one other : PortImage) : Type 0 where

@@ -1,14 +1,9 @@
 -- The next event of a port at its place.
 use Rattle.std.specs.Prelude.{◌≡◌, ℕ, ◌+◌, ◌<◌, ◌≤◌, true, false, List, Some, slice_get}
 use Rattle.logic_four.specs.declared.V4.{V4}
-use Rattle.image_defs.specs.declared.image.LinkIn.{LinkIn}
-use Rattle.image_defs.specs.declared.image.LinkOut.{LinkOut}
-use Rattle.image_defs.specs.declared.image.PortImage.{PortImage}
-use Rattle.image_defs.specs.Places.{Each, Stands}
-use Rattle.event_defs.specs.declared.place.Action.{Action}
+use Rattle.image_defs.specs.{declared.image.LinkIn.LinkIn, declared.image.LinkOut.LinkOut, declared.image.PortImage.PortImage, Places.Each, Places.Stands}
 use Rattle.event_defs.specs.declared.place.Action.TheVariants.{Ask, Put, Take, Tell, Done}
-use Rattle.event_defs.specs.declared.place.Place.{Place}
-use Rattle.event_defs.specs.Places.{is_in, known_of}
+use Rattle.event_defs.specs.{declared.place.Action.Action, declared.place.Place.Place, Places.is_in, Places.known_of}
 
 -- ---- where something is missing, by the slots that are put and taken
 

@@ -1,10 +1,7 @@
 -- Where a port stands in its turn, and what each event makes of it.
 use Rattle.std.specs.Prelude.{◌≡◌, ℕ, ◌+◌, ◌-◌, ◌==◌, Bool, if◌then◌else◌, List, [], ◌∷◌, ◌++◌, Some, slice_get, slice_set, slice_index_or, replicate}
 use Rattle.std.specs.List.{list_any}
-use Rattle.image_defs.specs.declared.image.LinkOut.{LinkOut}
-use Rattle.image_defs.specs.declared.image.PortImage.{PortImage}
-use Rattle.image_defs.specs.declared.image.Image.{Image}
-use Rattle.image_defs.specs.Places.{IsPort}
+use Rattle.image_defs.specs.{declared.image.LinkOut.LinkOut, declared.image.PortImage.PortImage, declared.image.Image.Image, Places.IsPort}
 use Rattle.event_defs.specs.declared.place.Place.{Place}
 
 -- link number i of what port p sends

@@ -3,17 +3,12 @@
 -- what the words say of the values at these turns. So no value stands in the first two, and no place in the
 -- third.
 use Rattle.std.specs.Prelude.{◌≡◌, ◌≢◌, ℕ, ◌+◌, ◌%◌, ◌<◌, ◌≤◌, true, [], length, AllPairs}
-use Rattle.logic_four.specs.declared.V4.{V4}
-use Rattle.logic_four.specs.Values.{code_of}
+use Rattle.logic_four.specs.{declared.V4.V4, Values.code_of}
 use Rattle.net_defs.specs.declared.stimulus.Stimulus.{Stimulus}
-use Rattle.image_defs.specs.declared.image.LinkOut.{LinkOut}
-use Rattle.image_defs.specs.declared.image.PortImage.{PortImage}
-use Rattle.image_defs.specs.declared.image.Image.{Image}
 use Rattle.image_defs.specs.Places.{Each, Stands, IsPort, in_slots, out_slots}
-use Rattle.image_defs.specs.Frames.{image_value}
-use Rattle.event_defs.specs.declared.place.Place.{Place}
+use Rattle.image_defs.specs.{declared.image.LinkOut.LinkOut, declared.image.PortImage.PortImage, declared.image.Image.Image, Frames.image_value}
 use Rattle.event_defs.specs.Places.{IsSend, is_in, known_of, latest}
-use Rattle.event_defs.specs.Steps.{CoreState, stamp_of}
+use Rattle.event_defs.specs.{declared.place.Place.Place, Steps.CoreState, Steps.stamp_of}
 
 -- ---- places
 

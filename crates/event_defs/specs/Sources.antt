@@ -1,10 +1,7 @@
 -- The numbers of sends and of sources.
 use Rattle.std.specs.Prelude.{List, Some, length, slice_get, ℕ, ◌<◌, ◌≡◌}
-use Rattle.image_defs.specs.declared.image.Image.{Image}
-use Rattle.image_defs.specs.declared.image.LinkIn.{LinkIn}
-use Rattle.image_defs.specs.declared.image.LinkOut.{LinkOut}
-use Rattle.event_defs.specs.Places.{IsSend}
-use Rattle.event_defs.specs.Row.{send_number, sends_before}
+use Rattle.image_defs.specs.declared.image.{Image.Image, LinkIn.LinkIn, LinkOut.LinkOut}
+use Rattle.event_defs.specs.{Places.IsSend, Row.send_number, Row.sends_before}
 
 -- for each of the first n ports, how many sends come before it
 pub record AreFirsts (image : Image) (n : ℕ) (firsts : List ℕ) : Type 0 where

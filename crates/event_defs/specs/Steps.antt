@@ -4,19 +4,13 @@ use Rattle.std.specs.Prelude.{◌≡◌, ℕ, zero, suc, ◌+◌, ◌*◌, ◌/�
 use Rattle.std.specs.List.{range_with_len}
 use Rattle.logic_four.specs.Values.{code_of}
 use Rattle.net_defs.specs.declared.stimulus.Stimulus.{Stimulus}
-use Rattle.image_defs.specs.declared.image.LinkIn.{LinkIn}
-use Rattle.image_defs.specs.declared.image.LinkOut.{LinkOut}
-use Rattle.image_defs.specs.declared.image.PortImage.{PortImage}
-use Rattle.image_defs.specs.declared.image.Image.{Image}
-use Rattle.image_defs.specs.Places.{IsPort, host_of}
-use Rattle.image_defs.specs.Frames.{image_value}
-use Rattle.event_defs.specs.declared.place.CoreStep.{CoreStep}
-use Rattle.event_defs.specs.declared.place.CoreStep.TheVariants.{Moved, NotYet, Done}
-use Rattle.event_defs.specs.declared.place.Event.{Event}
+use Rattle.image_defs.specs.declared.image.{LinkIn.LinkIn, LinkOut.LinkOut, PortImage.PortImage, Image.Image}
+use Rattle.image_defs.specs.{Places.IsPort, Places.host_of, Frames.image_value}
 use Rattle.event_defs.specs.declared.place.Event.TheVariants.{Ask, Put, Take, Tell}
-use Rattle.event_defs.specs.declared.place.Place.{Place}
 use Rattle.event_defs.specs.Places.{IsSend, start, after_ask, after_put, after_take, after_tell}
 use Rattle.event_defs.specs.Next.{ReceivesNext, AsksNext, PutsNext, TellsNext}
+use Rattle.event_defs.specs.declared.place.{CoreStep.CoreStep, CoreStep.TheVariants.Moved, CoreStep.TheVariants.NotYet, CoreStep.TheVariants.Done, Event.Event}
+use Rattle.event_defs.specs.declared.place.Place.{Place}
 
 -- ---- states
 

@@ -2,26 +2,14 @@
 //! stimuli, numbers of banks and orders.
 
 ghost use Rattle.std.specs.Prelude.{List, length, ℕ, ◌*◌, ◌+◌, ◌<◌, ◌≡◌, ◌≤◌, ◌⊎◌};
-ghost use Rattle.logic_four.specs.Values.{code_of};
-ghost use Rattle.logic_four.specs.declared.V4.{V4};
+ghost use Rattle.logic_four.specs.{Values.code_of, declared.V4.V4};
 ghost use Rattle.net_defs.specs.declared.stimulus.Stimulus.{Stimulus};
-ghost use Rattle.image_defs.specs.Frames.{image_value};
-ghost use Rattle.image_defs.specs.Places.{Each, IsPort, Stands};
-ghost use Rattle.image_defs.specs.WellFormed.{IsWellFormed};
-ghost use Rattle.image_defs.specs.declared.image.Image.{Image};
+ghost use Rattle.image_defs.specs.{Frames.image_value, Places.Each, Places.IsPort, Places.Stands, WellFormed.IsWellFormed, declared.image.Image.Image};
 ghost use Rattle.image_defs.specs.declared.image.PortImage.{PortImage};
-ghost use Rattle.event_defs.specs.Counts.{events, events_left, moved_in};
-ghost use Rattle.event_defs.specs.Foremost.{IsForemost};
-ghost use Rattle.event_defs.specs.Linked.{AreLinkedAlike};
-ghost use Rattle.event_defs.specs.Next.{IsNext};
-ghost use Rattle.event_defs.specs.Places.{start};
-ghost use Rattle.event_defs.specs.Sound.{IsSound};
 ghost use Rattle.event_defs.specs.Steps.{AllDone, AllIdle, AreFirstSteps, AreRounds, AreSteps, CoreState, IsStep, Puts, Takes, first_state, rows_done};
-ghost use Rattle.event_defs.specs.declared.place.Action.{Action};
-ghost use Rattle.event_defs.specs.declared.place.CoreStep.{CoreStep};
-ghost use Rattle.event_defs.specs.declared.place.CoreStep.TheVariants.{Moved};
-ghost use Rattle.event_defs.specs.declared.place.Event.{Event};
-ghost use Rattle.event_defs.specs.declared.place.Place.{Place};
+ghost use Rattle.event_defs.specs.{Counts.events, Counts.events_left, Counts.moved_in, Foremost.IsForemost, Linked.AreLinkedAlike, Next.IsNext, Places.start};
+ghost use Rattle.event_defs.specs.{Sound.IsSound, declared.place.Action.Action, declared.place.CoreStep.CoreStep, declared.place.CoreStep.TheVariants.Moved};
+ghost use Rattle.event_defs.specs.declared.place.{Event.Event, Place.Place};
 
 /// A law: what a port does next is one.
 pub fn one_next()

@@ -2,11 +2,8 @@
 
 ghost use Rattle.std.specs.Prelude.{IfOk, length, ℕ, ◌+◌, ◌<◌};
 ghost use Rattle.std.specs.List.Sorted.{IsStrictlyIncreasing};
-ghost use Rattle.image_defs.specs.Places.{IsPort, out_slots};
-ghost use Rattle.image_defs.specs.WellFormed.{IsLinkIn, IsWellFormed};
-ghost use Rattle.image_defs.specs.declared.image.PortImage.{PortImage};
-ghost use Rattle.event_defs.specs.Sources.{AreFirsts, AreSources, IsSource};
-ghost use Rattle.event_defs.specs.code.Sources.{IsLinkAt};
+ghost use Rattle.image_defs.specs.{Places.IsPort, Places.out_slots, WellFormed.IsLinkIn, WellFormed.IsWellFormed, declared.image.PortImage.PortImage};
+ghost use Rattle.event_defs.specs.{Sources.AreFirsts, Sources.AreSources, Sources.IsSource, code.Sources.IsLinkAt};
 
 use image_defs::{Image, LinkIn, LinkOut};
 use seen_list::{List, Memory};

@@ -1,19 +1,12 @@
 -- What each signal is stuck at, fault by fault.
 use Rattle.std.proofs.Common.{◌≡◌, ◌≢◌, ◌∙◌, inl, inr, ℕ, suc, ◌+◌, ◌<◌, ◌≤◌, ◌==◌, Bool, true, false, if◌then◌else◌, List, length, replicate, get_or, set, refl, sym, ap, subst, arith, Some, None}
-use Rattle.std.specs.List.{slice_get}
-use Rattle.std.proofs.Math.Seq.{map-set_same}
-use Rattle.std.proofs.lemmas.Bool.Decides.{eqb_tells}
-use Rattle.std.proofs.lemmas.Option.{slice_get-get_or}
-use Rattle.std.proofs.lemmas.Bool.{cases_lt}
 use Rattle.std.proofs.lemmas.List.{length-map, length-replicate, map-set, get_or-map, get_or-replicate, get_or_past, get_or-set_same, get_or-set_other}
-use Rattle.wide_planes.specs.declared.TheConstants.{WIDE_LANES}
+use Rattle.std.proofs.{Math.Seq.map-set_same, lemmas.Bool.Decides.eqb_tells, lemmas.Option.slice_get-get_or, lemmas.Bool.cases_lt}
+use Rattle.std.specs.List.{slice_get}
+use Rattle.wide_planes.specs.{declared.TheConstants.WIDE_LANES, declared.planes.Wide.Wide, Lanes.lane_of}
 use Rattle.logic_four.specs.declared.V4.TheVariants.{Undef}
-use Rattle.wide_planes.specs.declared.planes.Wide.{Wide}
-use Rattle.wide_planes.specs.Lanes.{lane_of}
-use Rattle.net_defs.specs.Time.{value_at}
+use Rattle.net_defs.specs.{Time.value_at, declared.faults.Fault.Fault, declared.netlist.Netlist.Netlist}
 use Rattle.net_ops.proofs.Rows.{put_value}
-use Rattle.net_defs.specs.declared.faults.Fault.{Fault}
-use Rattle.net_defs.specs.declared.netlist.Netlist.{Netlist}
 use Rattle.fault_sim.specs.code.Lanes.{force_at, stuck_in, stuck_value, AreForces, wide_row}
 
 -- where nothing is stuck yet

@@ -1,28 +1,17 @@
 -- Verdicts of several groups of faults, and all faults in groups.
 use Rattle.std.proofs.Common.{◌≡◌, ◌∙◌, inl, inr, ℕ, zero, suc, ◌+◌, ◌-◌, ◌<◌, ◌≤◌, List, [], ◌∷◌, ◌++◌, length, length-drop, take, drop, get_or, append-nil, append_assoc, length-append, refl, sym, ap, ap₂, subst, arith}
-use Rattle.std.specs.Prelude.{IfOk, Ok}
-use Rattle.std.specs.List.{slice_get, All, flat_map, range_with_len}
-use Rattle.std.proofs.Math.Seq.{take-add}
-use Rattle.std.proofs.lemmas.List.{take_all, length-take-le}
-use Rattle.std.proofs.lemmas.Bool.{cases_lt}
-use Rattle.std.proofs.lemmas.Option.{slice_get_within, slice_get-get_or}
 use Rattle.std.proofs.lemmas.List.Elements.{All-nil, All-cons, All-append, All-take, All-drop}
-use Rattle.std.proofs.lemmas.List.Concat.{flat_map-append}
-use Rattle.list_laws.proofs.Maps.{flat_map_grown}
-use Rattle.list_laws.proofs.Places.{at_front, slice_past}
-use Rattle.list_laws.proofs.Ranges.{range_append}
-use Rattle.net_defs.specs.declared.netlist.Netlist.{Netlist}
-use Rattle.net_defs.specs.declared.timing.Timing.{Timing}
-use Rattle.net_defs.specs.declared.stimulus.Stimulus.{Stimulus}
+use Rattle.std.proofs.{Math.Seq.take-add, lemmas.List.take_all, lemmas.List.length-take-le, lemmas.Bool.cases_lt}
+use Rattle.std.proofs.lemmas.{Option.slice_get_within, Option.slice_get-get_or, List.Concat.flat_map-append}
+use Rattle.std.specs.List.{slice_get, All, flat_map, range_with_len}
+use Rattle.std.specs.Prelude.{IfOk, Ok}
+use Rattle.list_laws.proofs.{Maps.flat_map_grown, Places.at_front, Places.slice_past, Ranges.range_append}
+use Rattle.net_defs.specs.declared.{netlist.Netlist.Netlist, timing.Timing.Timing, stimulus.Stimulus.Stimulus, faults.Fault.Fault}
 use Rattle.wide_planes.specs.declared.TheConstants.{WIDE_LANES}
 use Rattle.logic_four.specs.declared.V4.TheVariants.{Zero, One}
-use Rattle.net_defs.specs.declared.faults.Fault.{Fault}
-use Rattle.fault_sim.specs.declared.faults.Verdict.{Verdict}
-use Rattle.fault_sim.specs.declared.faults.Verdict.TheVariants.{Seen, Unseen}
-use Rattle.fault_sim.specs.declared.all.Group.{Group}
-use Rattle.fault_sim.specs.Faults.{IsFault, faults_at, faults_from}
-use Rattle.fault_sim.specs.Verdicts.{IsVerdict, AreVerdicts, IsNamed}
 use Rattle.fault_sim.specs.code.Groups.{IsGroup, group_faults, AreGroups, IsDone, AreRun}
+use Rattle.fault_sim.specs.declared.{faults.Verdict.Verdict, faults.Verdict.TheVariants.Seen, faults.Verdict.TheVariants.Unseen, all.Group.Group}
+use Rattle.fault_sim.specs.{Faults.IsFault, Faults.faults_at, Faults.faults_from, Verdicts.IsVerdict, Verdicts.AreVerdicts, Verdicts.IsNamed}
 
 module _ (net : Netlist) (timing : Timing) (stimulus : Stimulus) where
   pub verdicts_none : AreVerdicts net timing stimulus [] []

@@ -1,35 +1,22 @@
 -- The verdicts of a group of runs from one cycle to the next.
 use Rattle.std.proofs.Common.{◌≡◌, ◌∙◌, inl, inr, ℕ, ◌+◌, ◌<◌, ◌≤◌, Bool, true, false, not, List, [], ◌∷◌, ◌++◌, length, replicate, get_or, refl, sym, ap, ap₂, subst, arith, Some}
-use Rattle.std.specs.List.{slice_get, All}
-use Rattle.std.proofs.lemmas.Bool.{cases_lt}
-use Rattle.std.proofs.lemmas.Option.{slice_get_within, slice_get-get_or, get_or_from_slice_get}
 use Rattle.std.proofs.lemmas.List.{get_or-replicate, get_or_append_left, get_or_push, length-replicate, length_push}
-use Rattle.std.proofs.lemmas.List.Folds.{list_all_at}
+use Rattle.std.proofs.lemmas.{Bool.cases_lt, Option.slice_get_within, Option.slice_get-get_or, Option.get_or_from_slice_get, List.Folds.list_all_at}
+use Rattle.std.specs.List.{slice_get, All}
 use Rattle.limits.specs.declared.TheConstants.{MAX_CYCLES}
 use Rattle.list_laws.proofs.Members.{each}
 use Rattle.logic_four.specs.declared.V4.{V4}
-use Rattle.net_defs.specs.declared.netlist.Netlist.{Netlist}
-use Rattle.net_defs.specs.declared.timing.Timing.{Timing}
-use Rattle.net_defs.specs.declared.stimulus.Stimulus.{Stimulus}
-use Rattle.net_defs.specs.Time.{value_at, cycle_count}
-use Rattle.net_defs.specs.Steps.{State, values_of}
-use Rattle.net_defs.specs.Loops.{IsOrder}
-use Rattle.net_defs.specs.Trace.{cells_of}
-use Rattle.net_defs.specs.declared.faults.Fault.{Fault}
+use Rattle.net_defs.specs.declared.{netlist.Netlist.Netlist, timing.Timing.Timing, stimulus.Stimulus.Stimulus}
+use Rattle.net_defs.specs.{Time.value_at, Time.cycle_count, Steps.State, Steps.values_of, Loops.IsOrder, Trace.cells_of, declared.faults.Fault.Fault}
 use Rattle.ref_sim.specs.Observing.{HasWatchedLanes}
 use Rattle.ref_sim.proofs.lemmas.Simulations.{one_along}
 use Rattle.wide_planes.specs.declared.TheConstants.{WIDE_LANES}
-use Rattle.fault_sim.specs.declared.faults.Verdict.{Verdict}
-use Rattle.fault_sim.specs.declared.faults.Verdict.TheVariants.{Seen, Unseen}
-use Rattle.fault_sim.specs.declared.wires.Lanes.{Lanes}
-use Rattle.fault_sim.specs.declared.force.Forces.{Forces}
-use Rattle.fault_sim.specs.Faults.{IsFault}
-use Rattle.fault_sim.specs.Lines.{is_detected}
 use Rattle.fault_sim.specs.Verdicts.{differs, is_seen, IsFirstSeen, Judges, AreVerdicts}
 use Rattle.fault_sim.specs.code.Lanes.{lane_of, lane_row, stuck_in, AreForces}
 use Rattle.fault_sim.specs.code.Runs.{HasJudged, ShowsRows, differs_in, IsLooked, AreLooked, are_decided}
-use Rattle.fault_sim.proofs.LaneSteps.{good_runs, faulty_runs}
-use Rattle.fault_sim.proofs.Orders.{one_stuck}
+use Rattle.fault_sim.specs.declared.{faults.Verdict.Verdict, faults.Verdict.TheVariants.Seen, faults.Verdict.TheVariants.Unseen, wires.Lanes.Lanes}
+use Rattle.fault_sim.specs.{declared.force.Forces.Forces, Faults.IsFault, Lines.is_detected}
+use Rattle.fault_sim.proofs.{LaneSteps.good_runs, LaneSteps.faulty_runs, Orders.one_stuck}
 
 -- ---- one verdict
 

@@ -1,30 +1,18 @@
 -- The steps of a lane, in which its fault is stuck, are those of its netlist.
 use Rattle.std.proofs.Common.{◌≡◌, ◌≢◌, ◌∙◌, ◌⊎◌, inl, inr, ℕ, suc, ◌+◌, ◌≤◌, ◌==◌, if◌then◌else◌, List, length, replicate, refl, ap, subst, arith, Option, Some, None}
+use Rattle.std.proofs.lemmas.{Option.slice_get_within, List.length-set, Bool.Decides.eqb_tells}
 use Rattle.std.specs.List.{slice_get}
-use Rattle.std.proofs.lemmas.Option.{slice_get_within}
-use Rattle.std.proofs.lemmas.List.{length-set}
-use Rattle.std.proofs.lemmas.Bool.Decides.{eqb_tells}
 use Rattle.list_laws.proofs.Places.{within_some}
-use Rattle.logic_four.specs.declared.V4.{V4}
 use Rattle.logic_four.specs.declared.V4.TheVariants.{Zero, One, Undef, HighZ}
-use Rattle.net_defs.specs.declared.netlist.Netlist.{Netlist}
-use Rattle.net_defs.specs.declared.netlist.Signal.{Signal}
-use Rattle.net_defs.specs.declared.timing.Timing.{Timing}
-use Rattle.net_defs.specs.declared.stimulus.Stimulus.{Stimulus}
-use Rattle.net_defs.specs.Time.{value_at}
-use Rattle.net_defs.specs.Steps.{State, driven, first_state}
-use Rattle.net_defs.specs.Loops.{IsOrder}
-use Rattle.net_ops.specs.Lanes.{forced}
-use Rattle.net_ops.specs.States.{IsForcedStep}
+use Rattle.logic_four.specs.declared.V4.{V4}
+use Rattle.net_defs.specs.declared.{netlist.Netlist.Netlist, netlist.Signal.Signal, timing.Timing.Timing, stimulus.Stimulus.Stimulus}
+use Rattle.net_defs.specs.{Time.value_at, Steps.State, Steps.driven, Steps.first_state, Loops.IsOrder, declared.faults.Fault.Fault}
+use Rattle.net_ops.specs.{Lanes.forced, States.IsForcedStep}
 use Rattle.net_ops.proofs.Steps.{free_step}
-use Rattle.net_defs.specs.declared.faults.Fault.{Fault}
-use Rattle.fault_sim.specs.declared.force.Forces.{Forces}
-use Rattle.ref_sim.specs.Observing.{RunsAs}
-use Rattle.fault_sim.specs.Faults.{stuck, IsFault, IsStuckStep}
-use Rattle.fault_sim.specs.code.Faults.{order_for}
 use Rattle.fault_sim.specs.code.Lanes.{force_at, stuck_in, stuck_value, AreForces}
-use Rattle.fault_sim.proofs.Orders.{order_serves}
-use Rattle.fault_sim.proofs.Stuck.{stuck_signal, stuck_step}
+use Rattle.fault_sim.specs.{declared.force.Forces.Forces, Faults.stuck, Faults.IsFault, Faults.IsStuckStep, code.Faults.order_for}
+use Rattle.ref_sim.specs.Observing.{RunsAs}
+use Rattle.fault_sim.proofs.{Orders.order_serves, Stuck.stuck_signal, Stuck.stuck_step}
 
 -- what a lane's signals are stuck at
 module _ (faults : List Fault) (k : ℕ) (fault : Fault) (found : slice_get faults k ≡ Some fault) where

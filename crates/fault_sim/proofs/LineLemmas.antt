@@ -1,13 +1,9 @@
 -- One more line.
 use Rattle.std.proofs.Common.{◌≡◌, ◌∙◌, sym, ap, ℕ, ◌+◌, ◌<◌, ◌≤◌, List, [], ◌∷◌, ◌++◌, length, take, get_or, arith}
-use Rattle.std.specs.Prelude.{map}
-use Rattle.std.specs.List.{zip}
-use Rattle.std.proofs.lemmas.List.{map-append, take_all, take_more}
-use Rattle.std.proofs.lemmas.Slice.Zip.{get_or-zip, length-zip}
-use Rattle.net_defs.specs.declared.faults.Fault.{Fault}
-use Rattle.fault_sim.specs.declared.faults.Verdict.{Verdict}
-use Rattle.net_defs.specs.declared.netlist.Netlist.{Netlist}
-use Rattle.fault_sim.specs.Lines.{verdict_line}
+use Rattle.std.proofs.lemmas.{List.map-append, List.take_all, List.take_more, Slice.Zip.get_or-zip, Slice.Zip.length-zip}
+use Rattle.std.specs.{Prelude.map, List.zip}
+use Rattle.net_defs.specs.declared.{faults.Fault.Fault, netlist.Netlist.Netlist}
+use Rattle.fault_sim.specs.{declared.faults.Verdict.Verdict, Lines.verdict_line}
 
 pub one_more : (net : Netlist) (faults : List Fault) (verdicts : List Verdict) (k : ℕ) (fault : Fault) (verdict : Verdict) → length verdicts ≡ length faults → k < length verdicts
     → map (λ p. verdict_line net p.0 p.1) (take k (zip faults verdicts)) ++ verdict_line net (get_or faults k fault) (get_or verdicts k verdict) ∷ [] ≡ map (λ p. verdict_line net p.0 p.1) (take (k + 1) (zip faults verdicts))

@@ -1,28 +1,16 @@
 -- Columns, and the verdicts after a cycle.
 use Rattle.std.proofs.Common.{◌≡◌, ◌∙◌, inl, inr, ℕ, ◌+◌, ◌<◌, ◌≤◌, false, List, length, get_or, set, refl, sym, ap, ap₂, subst, arith, Some}
-use Rattle.std.specs.List.{slice_get, All}
-use Rattle.std.proofs.lemmas.Option.{slice_get_within, get_or_from_slice_get}
 use Rattle.std.proofs.lemmas.List.{length-set, length-map, get_or-map, get_or_past}
-use Rattle.list_laws.proofs.Places.{one_there}
-use Rattle.list_laws.proofs.Ranges.{last_or}
-use Rattle.list_laws.proofs.Members.{set_same, set_other}
-use Rattle.logic_four.specs.declared.V4.{V4}
+use Rattle.std.proofs.lemmas.Option.{slice_get_within, get_or_from_slice_get}
+use Rattle.std.specs.{List.slice_get, List.All, Prelude.max}
+use Rattle.list_laws.proofs.{Places.one_there, Ranges.last_or, Members.set_same, Members.set_other}
 use Rattle.logic_four.specs.declared.V4.TheVariants.{Zero, One, Undef, HighZ}
-use Rattle.wide_planes.specs.declared.planes.Wide.{Wide}
-use Rattle.std.specs.Prelude.{max}
-use Rattle.wide_planes.specs.declared.TheConstants.{WIDE_LANES}
-use Rattle.wide_planes.specs.declared.planes.Words.{Words}
+use Rattle.logic_four.specs.declared.V4.{V4}
+use Rattle.wide_planes.specs.{declared.planes.Wide.Wide, declared.TheConstants.WIDE_LANES, declared.planes.Words.Words, Lanes.bit_of, Lanes.opposite}
 use Rattle.wide_planes.specs.Lanes as wide
-use Rattle.wide_planes.specs.Lanes.{bit_of, opposite}
-use Rattle.fault_sim.specs.declared.wires.Lanes.{Lanes}
-use Rattle.fault_sim.specs.code.Lanes.{lane_of, lane_row}
-use Rattle.net_defs.specs.declared.netlist.Netlist.{Netlist}
-use Rattle.net_defs.specs.Time.{value_at}
-use Rattle.net_defs.specs.Steps.{values_of}
-use Rattle.net_defs.specs.Valid.{IsSignal}
-use Rattle.fault_sim.specs.declared.faults.Verdict.{Verdict}
-use Rattle.fault_sim.specs.Verdicts.{differs}
+use Rattle.fault_sim.specs.{declared.wires.Lanes.Lanes, code.Lanes.lane_of, code.Lanes.lane_row, declared.faults.Verdict.Verdict, Verdicts.differs}
 use Rattle.fault_sim.specs.code.Runs.{differs_in, IsLooked, AreLooked}
+use Rattle.net_defs.specs.{declared.netlist.Netlist.Netlist, Time.value_at, Steps.values_of, Valid.IsSignal}
 
 -- a printed value of a lane
 column_is : (net : Netlist) (row : List Lanes) (l j : ℕ) (p : Lanes) (list : List ℕ) → list ≡ net.printed → All (IsSignal net) net.printed → length row ≡ length net.signals → j < length list → p ≡ get_or row (get_or list j 0) p

@@ -1,31 +1,17 @@
 -- There is exactly one verdict on each fault.
 use Rattle.std.proofs.Common.{◌≡◌, ◌∙◌, ◌⊎◌, inl, inr, ℕ, zero, suc, ◌+◌, ◌*◌, ◌<◌, ◌≤◌, Bool, true, false, List, [], ◌∷◌, length, get_or, refl, sym, ap, ap₂, subst, arith, Some}
+use Rattle.std.proofs.lemmas.{Bool.cases_lt, Option.slice_get_within, Option.slice_get-get_or, List.ext_get_or, List.Elements.All-head, List.Elements.All-tail}
 use Rattle.std.specs.List.{slice_get, slice_index_or, All}
-use Rattle.std.proofs.lemmas.Bool.{cases_lt}
-use Rattle.std.proofs.lemmas.Option.{slice_get_within, slice_get-get_or}
-use Rattle.std.proofs.lemmas.List.{ext_get_or}
-use Rattle.std.proofs.lemmas.List.Elements.{All-head, All-tail}
 use Rattle.list_laws.proofs.Ranges.{last_or}
-use Rattle.logic_four.specs.declared.V4.{V4}
-use Rattle.logic_four.specs.declared.V4.TheVariants.{Zero}
-use Rattle.net_defs.specs.declared.netlist.Netlist.{Netlist}
-use Rattle.net_defs.specs.declared.timing.Timing.{Timing}
-use Rattle.net_defs.specs.declared.stimulus.Stimulus.{Stimulus}
-use Rattle.net_defs.specs.Time.{cycle_count}
-use Rattle.net_defs.specs.Steps.{State}
-use Rattle.net_defs.specs.Loops.{IsOrder, IsCircle}
+use Rattle.logic_four.specs.declared.V4.{V4, TheVariants.Zero}
+use Rattle.net_defs.specs.{declared.netlist.Netlist.Netlist, declared.timing.Timing.Timing, declared.stimulus.Stimulus.Stimulus, Time.cycle_count, Steps.State}
+use Rattle.net_defs.specs.{Loops.IsOrder, Loops.IsCircle, declared.faults.Fault.Fault}
 use Rattle.rank_find.proofs.Existence.{order_or_loop}
 use Rattle.ref_sim.proofs.lemmas.Simulations.{one_along}
-use Rattle.net_defs.specs.declared.faults.Fault.{Fault}
-use Rattle.fault_sim.specs.declared.faults.Verdict.{Verdict}
-use Rattle.fault_sim.specs.declared.faults.Verdict.TheVariants.{Seen, Unseen}
-use Rattle.fault_sim.specs.Faults.{IsFault, all_faults}
 use Rattle.fault_sim.specs.Verdicts.{is_seen, Judges, IsVerdict, AreVerdicts, HasOneList}
-use Rattle.fault_sim.specs.code.Runs.{differs_in, IsFirstColumn, IsLooked}
-use Rattle.fault_sim.proofs.Orders.{one_stuck}
-use Rattle.fault_sim.proofs.Looking.{differs_past}
-use Rattle.fault_sim.proofs.Judging.{judge_step}
-use Rattle.fault_sim.proofs.Gathering.{verdicts_none, verdicts_more, faults_are}
+use Rattle.fault_sim.specs.declared.faults.Verdict.{Verdict, TheVariants.Seen, TheVariants.Unseen}
+use Rattle.fault_sim.specs.{Faults.IsFault, Faults.all_faults, code.Runs.differs_in, code.Runs.IsFirstColumn, code.Runs.IsLooked}
+use Rattle.fault_sim.proofs.{Orders.one_stuck, Looking.differs_past, Judging.judge_step, Gathering.verdicts_none, Gathering.verdicts_more, Gathering.faults_are}
 
 -- ---- there is one
 

@@ -1,22 +1,15 @@
 -- An order of the netlist serves the faulty one, where the stuck signal waits for nothing.
 use Rattle.std.proofs.Common.{◌≡◌, ◌≢◌, ◌∙◌, ◌⊎◌, inl, inr, ℕ, zero, suc, ◌<◌, Bool, true, false, if◌then◌else◌, List, [], ◌∷◌, length, take, get_or, refl, sym, ap, subst, arith}
+use Rattle.std.proofs.lemmas.{Bool.Decides.eqb_tells, List.Kept.AllPairs-cons, List.Elements.All-cons}
 use Rattle.std.specs.List.{Contains}
-use Rattle.std.proofs.lemmas.Bool.Decides.{eqb_tells}
-use Rattle.std.proofs.lemmas.List.Kept.{AllPairs-cons}
-use Rattle.std.proofs.lemmas.List.Elements.{All-cons}
-use Rattle.logic_four.specs.declared.V4.{V4}
 use Rattle.logic_four.specs.declared.V4.TheVariants.{Zero, One, Undef, HighZ}
-use Rattle.net_defs.specs.declared.netlist.Netlist.{Netlist}
-use Rattle.net_defs.specs.declared.timing.Timing.{Timing}
-use Rattle.net_defs.specs.declared.stimulus.Stimulus.{Stimulus}
-use Rattle.net_defs.specs.Steps.{is_late}
+use Rattle.logic_four.specs.declared.V4.{V4}
 use Rattle.net_defs.specs.Loops.{is_gate, IsGate, is_gate_driver, gate_operands, waits_for, IsOrder, IsCircle}
-use Rattle.net_defs.specs.Reference.{HasOneSimulation}
+use Rattle.net_defs.specs.{declared.netlist.Netlist.Netlist, declared.timing.Timing.Timing, declared.stimulus.Stimulus.Stimulus, Steps.is_late}
+use Rattle.net_defs.specs.{Reference.HasOneSimulation, declared.faults.Fault.Fault}
 use Rattle.rank_find.proofs.Existence.{order_or_loop}
 use Rattle.ref_sim.proofs.lemmas.Simulations.{one_along}
-use Rattle.net_defs.specs.declared.faults.Fault.{Fault}
-use Rattle.fault_sim.specs.Faults.{constant, stuck, IsFault}
-use Rattle.fault_sim.specs.code.Faults.{order_for}
+use Rattle.fault_sim.specs.{Faults.constant, Faults.stuck, Faults.IsFault, code.Faults.order_for}
 use Rattle.fault_sim.proofs.Stuck.{stuck_here, stuck_else}
 
 constant_is_gate : (v : V4) → is_gate_driver (constant v) ≡ true

@@ -1,22 +1,13 @@
 -- The faulty netlist, signal by signal, and its steps.
 use Rattle.std.proofs.Common.{◌≡◌, ◌≢◌, ◌∙◌, ◌⊎◌, inl, inr, ℕ, length, refl, sym, ap, Some}
+use Rattle.std.proofs.lemmas.{Bool.Decides.eqb_tells, List.length-set}
 use Rattle.std.specs.List.{slice_get}
-use Rattle.std.proofs.lemmas.Bool.Decides.{eqb_tells}
-use Rattle.std.proofs.lemmas.List.{length-set}
-use Rattle.list_laws.proofs.Places.{one_there}
-use Rattle.list_laws.proofs.Members.{set_same, set_other}
-use Rattle.logic_four.specs.declared.V4.{V4}
+use Rattle.list_laws.proofs.{Places.one_there, Members.set_same, Members.set_other}
 use Rattle.logic_four.specs.declared.V4.TheVariants.{Zero, One, Undef, HighZ}
-use Rattle.net_defs.specs.declared.netlist.Netlist.{Netlist}
-use Rattle.net_defs.specs.declared.netlist.Signal.{Signal}
-use Rattle.net_defs.specs.declared.netlist.Driver.{Driver}
+use Rattle.logic_four.specs.declared.V4.{V4}
 use Rattle.net_defs.specs.declared.netlist.Driver.TheVariants.{Input, Gate, Dff, BlockBit}
-use Rattle.net_defs.specs.declared.timing.Timing.{Timing}
-use Rattle.net_defs.specs.declared.stimulus.Stimulus.{Stimulus}
-use Rattle.net_defs.specs.Time.{value_at}
-use Rattle.net_defs.specs.Canonical.{name_of}
-use Rattle.net_defs.specs.Steps.{State, driven, IsRightStep}
-use Rattle.net_defs.specs.declared.faults.Fault.{Fault}
+use Rattle.net_defs.specs.declared.{netlist.Netlist.Netlist, netlist.Signal.Signal, netlist.Driver.Driver, timing.Timing.Timing, stimulus.Stimulus.Stimulus}
+use Rattle.net_defs.specs.{Time.value_at, Canonical.name_of, Steps.State, Steps.driven, Steps.IsRightStep, declared.faults.Fault.Fault}
 use Rattle.fault_sim.specs.Faults.{constant, stuck, IsFault, IsStuckStep}
 
 -- the signal with its new driver

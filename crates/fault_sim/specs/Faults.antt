@@ -2,23 +2,13 @@
 -- it was.
 use Rattle.std.specs.Prelude.{◌≡◌, ◌≢◌, ℕ, List, [], ◌∷◌, length, Some, slice_get, slice_set}
 use Rattle.std.specs.List.{flat_map, range_with_len}
-use Rattle.logic_four.specs.declared.V4.{V4}
 use Rattle.logic_four.specs.declared.V4.TheVariants.{Zero, One, Undef, HighZ}
-use Rattle.logic_four.specs.declared.Kind.TheVariants.{And, Or}
-use Rattle.net_defs.specs.declared.netlist.Netlist.{Netlist}
-use Rattle.net_defs.specs.declared.netlist.Signal.{Signal}
-use Rattle.net_defs.specs.declared.netlist.Block.{Block}
-use Rattle.net_defs.specs.declared.netlist.Driver.{Driver}
-use Rattle.net_defs.specs.declared.netlist.Driver.TheVariants.{Gate}
-use Rattle.net_defs.specs.declared.timing.Timing.{Timing}
-use Rattle.net_defs.specs.declared.stimulus.Stimulus.{Stimulus}
-use Rattle.net_defs.specs.Time.{value_at}
-use Rattle.net_defs.specs.Canonical.{name_of}
-pub use Rattle.net_defs.specs.Valid.{IsFault}
+use Rattle.logic_four.specs.declared.{V4.V4, Kind.TheVariants.And, Kind.TheVariants.Or}
 use Rattle.net_defs.specs.Steps.{State, driven, words_of, words_after, IsRightStep}
-use Rattle.net_defs.specs.Loops.{IsCircle}
-use Rattle.net_defs.specs.Reference.{HasOneSimulation}
-use Rattle.net_defs.specs.declared.faults.Fault.{Fault}
+use Rattle.net_defs.specs.declared.netlist.{Netlist.Netlist, Signal.Signal, Block.Block, Driver.Driver, Driver.TheVariants.Gate}
+use Rattle.net_defs.specs.{declared.timing.Timing.Timing, declared.stimulus.Stimulus.Stimulus, Time.value_at, Canonical.name_of, Loops.IsCircle}
+use Rattle.net_defs.specs.{Reference.HasOneSimulation, declared.faults.Fault.Fault}
+pub use Rattle.net_defs.specs.Valid.{IsFault}
 
 -- a driver that gives 1 where the value is 1, and else 0: an AND of no operands is 1, and an OR of none 0
 abbrev pub constant : V4 → Driver

@@ -1,18 +1,9 @@
 -- Where a fault is first seen.
 use Rattle.std.specs.Prelude.{◌≡◌, ℕ, ◌<◌, ◌≤◌, Bool, true, false, List, length, Some, slice_get, All}
-use Rattle.logic_four.specs.declared.V4.{V4}
-use Rattle.logic_four.specs.declared.V4.TheVariants.{Zero, One}
-use Rattle.net_defs.specs.declared.netlist.Netlist.{Netlist}
-use Rattle.net_defs.specs.declared.timing.Timing.{Timing}
-use Rattle.net_defs.specs.declared.stimulus.Stimulus.{Stimulus}
-use Rattle.net_defs.specs.Time.{value_at, cycle_count}
-use Rattle.net_defs.specs.Steps.{State}
-use Rattle.net_defs.specs.Trace.{cells_of}
-use Rattle.net_defs.specs.Reference.{IsSimulation}
-use Rattle.net_defs.specs.declared.faults.Fault.{Fault}
-use Rattle.fault_sim.specs.declared.faults.Verdict.{Verdict}
-use Rattle.fault_sim.specs.declared.faults.Verdict.TheVariants.{Seen, Unseen}
-use Rattle.net_defs.specs.Loops.{IsCircle}
+use Rattle.logic_four.specs.declared.V4.{V4, TheVariants.Zero, TheVariants.One}
+use Rattle.net_defs.specs.declared.{netlist.Netlist.Netlist, timing.Timing.Timing, stimulus.Stimulus.Stimulus}
+use Rattle.net_defs.specs.{Time.value_at, Time.cycle_count, Steps.State, Trace.cells_of, Reference.IsSimulation, declared.faults.Fault.Fault, Loops.IsCircle}
+use Rattle.fault_sim.specs.declared.faults.Verdict.{Verdict, TheVariants.Seen, TheVariants.Unseen}
 use Rattle.fault_sim.specs.Faults.{IsFault, stuck, all_faults}
 
 -- a tester sees that the second value is wrong where the first is right: one is 0, and the other 1

@@ -2,13 +2,11 @@
 
 ghost use Rattle.std.specs.Prelude.{◌≡◌, ◌+◌, ◌<◌, ◌≤◌, ◌^◌, length, All, IfOk};
 ghost use Rattle.limits.specs.declared.TheConstants.{MAX_WORKERS};
-ghost use Rattle.net_defs.specs.Valid.{IsValid, IsValidTiming, IsValidStimulus};
-ghost use Rattle.net_defs.specs.Loops.{AreRanks};
-ghost use Rattle.fault_sim.specs.Faults.{IsFault, all_faults};
-ghost use Rattle.fault_sim.specs.Verdicts.{AreAllVerdicts, AreVerdicts, IsNamed};
-ghost use Rattle.net_ops.specs.Schedules.{IsSchedule};
-ghost use Rattle.fault_sim.specs.code.Lanes.{pair_value, wide_form};
+ghost use Rattle.net_defs.specs.{Valid.IsValid, Valid.IsValidTiming, Valid.IsValidStimulus, Loops.AreRanks};
 ghost use Rattle.fault_sim.specs.code.Groups.{group_faults, IsGroup, AreGroups, IsDone, IsRun, AreRun};
+ghost use Rattle.fault_sim.specs.{Faults.IsFault, Faults.all_faults, Verdicts.AreAllVerdicts, Verdicts.AreVerdicts, Verdicts.IsNamed};
+ghost use Rattle.fault_sim.specs.code.Lanes.{pair_value, wide_form};
+ghost use Rattle.net_ops.specs.Schedules.{IsSchedule};
 
 use crate::group::scheduled_group;
 use crate::wires::Lanes;

@@ -2,8 +2,7 @@
 
 ghost use Rattle.std.specs.Prelude.{◌<◌, ◌≤◌, length, All, IfOk};
 ghost use Rattle.wide_planes.specs.declared.TheConstants.{WIDE_LANES};
-ghost use Rattle.fault_sim.specs.Faults.{IsFault};
-ghost use Rattle.fault_sim.specs.code.Lanes.{AreForces};
+ghost use Rattle.fault_sim.specs.{Faults.IsFault, code.Lanes.AreForces};
 
 use crate::Fault;
 use logic_four::V4;

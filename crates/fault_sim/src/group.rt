@@ -2,12 +2,9 @@
 
 ghost use Rattle.std.specs.Prelude.{◌<◌, length, All, IfOk};
 ghost use Rattle.wide_planes.specs.declared.TheConstants.{WIDE_LANES};
-ghost use Rattle.net_defs.specs.Valid.{IsValid, IsValidTiming, IsValidStimulus};
-ghost use Rattle.net_defs.specs.Loops.{AreRanks};
-ghost use Rattle.fault_sim.specs.Faults.{IsFault};
-ghost use Rattle.fault_sim.specs.Verdicts.{AreVerdicts};
+ghost use Rattle.net_defs.specs.{Valid.IsValid, Valid.IsValidTiming, Valid.IsValidStimulus, Loops.AreRanks};
+ghost use Rattle.fault_sim.specs.{Faults.IsFault, Verdicts.AreVerdicts, code.Lanes.pair_value, code.Lanes.wide_form};
 ghost use Rattle.net_ops.specs.Schedules.{IsSchedule};
-ghost use Rattle.fault_sim.specs.code.Lanes.{pair_value, wide_form};
 
 use crate::force::make_forces;
 use crate::look::Judging;

@@ -10,8 +10,7 @@
 //! ```
 #![tactic(auto)]
 
-ghost use Rattle.fault_sim.specs.Faults.{StepsAsStuck, StuckStepsRight, HasOneFaulty};
-ghost use Rattle.fault_sim.specs.Verdicts.{AreAllFaults, HaveOneList};
+ghost use Rattle.fault_sim.specs.{Faults.StepsAsStuck, Faults.StuckStepsRight, Faults.HasOneFaulty, Verdicts.AreAllFaults, Verdicts.HaveOneList};
 
 mod all;
 mod faults;

@@ -3,8 +3,8 @@
 //! many are seen.
 
 ghost use Rattle.std.specs.Prelude.{◌≡◌, ◌∷◌, [], ◌++◌, IfOk, OnOk, count_by, decimal, length, map};
-ghost use Rattle.net_defs.specs.Canonical.{name_of};
 ghost use Rattle.std.specs.List.{zip};
+ghost use Rattle.net_defs.specs.Canonical.{name_of};
 ghost use Rattle.fault_sim.specs.Lines.{column_name, detected_line, fault_lines, is_detected, place_words, stuck_digit, verdict_line};
 
 use crate::{Fault, Verdict};

@@ -4,9 +4,8 @@ ghost use Rattle.std.specs.Prelude.{◌≡◌, ◌+◌, ◌<◌, ◌≤◌, ◌^
 ghost use Rattle.wide_planes.specs.declared.TheConstants.{WIDE_LANES};
 ghost use Rattle.net_defs.specs.Valid.{IsSignal};
 ghost use Rattle.fault_sim.specs.declared.faults.Verdict.TheVariants as Verdict;
-ghost use Rattle.fault_sim.specs.Verdicts.{differs};
-ghost use Rattle.fault_sim.specs.code.Lanes.{lane_row};
 ghost use Rattle.fault_sim.specs.code.Runs.{FindsColumn, HasJudged, IsLooked, AreLooked, MarkOthers, differs_in, are_decided};
+ghost use Rattle.fault_sim.specs.{Verdicts.differs, code.Lanes.lane_row};
 
 use crate::Verdict;
 use crate::lines::is_detected;

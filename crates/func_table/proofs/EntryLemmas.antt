@@ -1,18 +1,11 @@
 -- A table as it is built, entry by entry, and as its entries.
 use Rattle.std.proofs.Common.{inl, inr, ◌≡◌, ◌≢◌, ℕ, ◌+◌, ◌*◌, ◌/◌, ◌%◌, ◌^◌, ◌<◌, List, [], ◌∷◌, length, take, ap, ◌∙◌, arith, Bool, true, false, refl, sym}
-use Rattle.std.specs.Prelude.{slice_index}
-use Rattle.std.specs.Bool.{Decides, MatchBool}
 use Rattle.std.proofs.lemmas.Bool.{cases_eq}
-use Rattle.logic_four.specs.declared.V4.{V4}
-use Rattle.logic_four.specs.declared.Kind.{Kind}
-use Rattle.logic_four.specs.Values.{code_of, value_of}
-use Rattle.logic_four.specs.Gates.{gate_value}
-use Rattle.logic_four.specs.Packed.{packed_value}
-use Rattle.logic_four.proofs.lemmas.CodeLemmas.{value_of-code_of, code_of_small, code_of-value_of}
-use Rattle.logic_four.proofs.lemmas.PackedLemmas.{same_words}
-use Rattle.func_table.specs.declared.table.Table.{Table}
+use Rattle.std.specs.{Prelude.slice_index, Bool.Decides, Bool.MatchBool}
+use Rattle.logic_four.specs.{declared.V4.V4, declared.Kind.Kind, Values.code_of, Values.value_of, Gates.gate_value, Packed.packed_value}
+use Rattle.logic_four.proofs.lemmas.{CodeLemmas.value_of-code_of, CodeLemmas.code_of_small, CodeLemmas.code_of-value_of, PackedLemmas.same_words}
 use Rattle.func_table.specs.Entries.{entry_of, place_of, AreAlike, AreOther, entry_for}
-use Rattle.func_table.specs.code.Entries.{operands_at, answer_at}
+use Rattle.func_table.specs.{declared.table.Table.Table, code.Entries.operands_at, code.Entries.answer_at}
 
 -- the entry for four operands is below 256, and the operands are read from it
 first_code : (x y z w : ℕ) → x < 4 → (x + 4 * y + 16 * z + 64 * w) % 4 ≡ x

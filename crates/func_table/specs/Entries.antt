@@ -1,11 +1,6 @@
 -- A function table as its 256 entries.
 use Rattle.std.specs.Prelude.{◌≡◌, ℕ, ◌+◌, ◌*◌, ◌<◌, [], ◌∷◌, take, Option, Some, None}
-use Rattle.logic_four.specs.declared.V4.{V4}
-use Rattle.logic_four.specs.declared.V4.TheVariants.{Undef}
-use Rattle.logic_four.specs.declared.Kind.{Kind}
-use Rattle.logic_four.specs.Values.{code_of}
-use Rattle.logic_four.specs.Gates.{gate_value}
-use Rattle.logic_four.specs.Packed.{packed_value}
+use Rattle.logic_four.specs.{declared.V4.V4, declared.V4.TheVariants.Undef, declared.Kind.Kind, Values.code_of, Gates.gate_value, Packed.packed_value}
 use Rattle.func_table.specs.declared.table.Table.{Table}
 
 -- the value of entry e

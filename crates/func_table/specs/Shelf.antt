@@ -1,7 +1,6 @@
 -- A shelf of tables, each of which has a number.
 use Rattle.std.specs.Prelude.{◌≡◌, ◌⊎◌, ℕ, List, [], ◌∷◌, ◌++◌, length, Some, slice_get, All, AllPairs}
-use Rattle.func_table.specs.declared.table.Table.{Table}
-use Rattle.func_table.specs.Entries.{AreOther}
+use Rattle.func_table.specs.{declared.table.Table.Table, Entries.AreOther}
 
 -- no table stands twice: every two of them differ in an entry
 abbrev pub AreDifferent : List Table → Type 0

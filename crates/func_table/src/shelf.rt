@@ -2,8 +2,7 @@
 
 ghost use Rattle.std.specs.Prelude.{◌≡◌, ◌+◌, ◌-◌, ◌^◌, ◌<◌, [], All, MatchOption, IfOk, OnErr, Some, length, slice_get};
 ghost use Rattle.std.specs.Bool.{MatchBool};
-ghost use Rattle.func_table.specs.Entries.{AreOther};
-ghost use Rattle.func_table.specs.Shelf.{AreDifferent, IsNumbered};
+ghost use Rattle.func_table.specs.{Entries.AreOther, Shelf.AreDifferent, Shelf.IsNumbered};
 
 use crate::table::{Table, entries_decide};
 use seen_list::{List, Memory};

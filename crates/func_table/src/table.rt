@@ -2,8 +2,7 @@
 
 ghost use Rattle.std.specs.Prelude.{◌≡◌, ◌≤◌, ◌<◌, ℕ};
 ghost use Rattle.logic_four.specs.Kinds.{AllowsOperands};
-ghost use Rattle.func_table.specs.Entries.{entry_of, entry_for, IsTableOf};
-ghost use Rattle.func_table.specs.code.Entries.{answer_at};
+ghost use Rattle.func_table.specs.{Entries.entry_of, Entries.entry_for, Entries.IsTableOf, code.Entries.answer_at};
 
 use logic_four::{Kind, V4, code, decoded, gate, packed};
 

@@ -1,11 +1,8 @@
 -- A form grows by an option.
 use Rattle.std.proofs.Common.{◌≡◌, ◌∙◌, ℕ, ◌<◌, ◌+◌, ◌-◌, List, [], ◌∷◌, ◌++◌, map, drop, get_or, length, Bor, refl, sym, ap, ap₂, append_assoc, append-nil, add-one}
-use Rattle.std.proofs.Math.Seq.{drop-cons}
+use Rattle.std.proofs.{Math.Seq.drop-cons, lemmas.List.Folds.flat_map-map}
 use Rattle.std.specs.List.{flat_map}
-use Rattle.std.proofs.lemmas.List.Folds.{flat_map-map}
-use Rattle.cmd_words.specs.Arguments.{Word}
-use Rattle.cmd_words.specs.Topics.{options_of}
-use Rattle.cmd_words.specs.declared.topic.Topic.{Topic}
+use Rattle.cmd_words.specs.{Arguments.Word, Topics.options_of, declared.topic.Topic.Topic}
 use Rattle.help_text.specs.Forms.{bracketed, filled, form_of, head_of, left_after, placed}
 use Rattle.help_text.specs.Texts.{option_line}
 

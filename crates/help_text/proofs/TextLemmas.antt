@@ -1,10 +1,9 @@
 -- Where the form of a command stands, and which options stand in it.
 use Rattle.std.proofs.Common.{◌≡◌, true, ◌∙◌, ℕ, ◌<◌, ◌+◌, List, ◌++◌, take, drop, get_or, length, map, refl, ap, sym, append_assoc, codes, arith}
-use Rattle.std.specs.List.{flat_map}
 use Rattle.std.proofs.lemmas.List.{get_or-map}
+use Rattle.std.specs.List.{flat_map}
 use Rattle.list_laws.proofs.Maps.{flat_map_at}
-use Rattle.cmd_words.specs.Topics.{options_of, topics}
-use Rattle.cmd_words.specs.declared.topic.Topic.{Topic}
+use Rattle.cmd_words.specs.{Topics.options_of, Topics.topics, declared.topic.Topic.Topic}
 use Rattle.cmd_words.specs.declared.topic.Topic.TheVariants as topic
 use Rattle.help_text.specs.Forms.{form_of, head_of, bracketed, filled, names_in}
 use Rattle.help_text.specs.Notes.{does, operands, prints, says, value_word}

@@ -1,8 +1,6 @@
 -- The form of a command: its word, what it takes, and each option of its list.
 use Rattle.std.specs.Prelude.{◌-◌, ℕ, List, [], ◌∷◌, ◌++◌, map, take, drop, length, nat_lt, if◌then◌else◌, codes, bytes_eq}
-use Rattle.cmd_words.specs.Arguments.{Word}
-use Rattle.cmd_words.specs.Topics.{options_of, word_of}
-use Rattle.cmd_words.specs.declared.topic.Topic.{Topic}
+use Rattle.cmd_words.specs.{Arguments.Word, Topics.options_of, Topics.word_of, declared.topic.Topic.Topic}
 use Rattle.help_text.specs.Notes.{operands, value_word}
 
 -- what stands before the options

@@ -1,7 +1,6 @@
 -- What is said of each command and of each option.
 use Rattle.std.specs.Prelude.{ℕ, List, [], if◌then◌else◌, codes, bytes_eq}
-use Rattle.cmd_words.specs.Arguments.{Word}
-use Rattle.cmd_words.specs.declared.topic.Topic.{Topic}
+use Rattle.cmd_words.specs.{Arguments.Word, declared.topic.Topic.Topic}
 use Rattle.cmd_words.specs.declared.topic.Topic.TheVariants as topic
 use Rattle.help_text.specs.declared.brief.TheConstants as brief
 use Rattle.help_text.specs.declared.detail.TheConstants as detail

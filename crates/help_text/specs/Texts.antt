@@ -1,12 +1,9 @@
 -- The whole texts.
 use Rattle.std.specs.Prelude.{◌≡◌, ◌==◌, ◌&&◌, ◌+◌, ℕ, Bool, true, List, [], ◌∷◌, ◌++◌, Option, Some, None, codes, count_by, length, nat_le, nat_lt, if◌then◌else◌}
 use Rattle.std.specs.List.{flat_map, list_all}
-use Rattle.cmd_words.specs.Arguments.{Word}
-use Rattle.cmd_words.specs.Topics.{options_of, topics}
-use Rattle.cmd_words.specs.declared.topic.Topic.{Topic}
-use Rattle.help_text.specs.Forms.{form_of}
+use Rattle.cmd_words.specs.{Arguments.Word, Topics.options_of, Topics.topics, declared.topic.Topic.Topic}
 use Rattle.help_text.specs.Notes.{does, prints, says, value_word}
-use Rattle.help_text.specs.declared.text.TheConstants.{HEAD, STATUSES}
+use Rattle.help_text.specs.{Forms.form_of, declared.text.TheConstants.HEAD, declared.text.TheConstants.STATUSES}
 
 -- what is said of an option
 unfoldable pub option_line : Word → List ℕ

@@ -1,11 +1,9 @@
 //! What holds of the texts. The functions do nothing: their clauses are the laws.
 
-ghost use Rattle.std.specs.Prelude.{◌≡◌, true};
-ghost use Rattle.cmd_words.specs.declared.topic.Topic.{Topic};
-ghost use Rattle.std.specs.List.{flat_map};
-ghost use Rattle.cmd_words.specs.Topics.{options_of, topics};
-ghost use Rattle.help_text.specs.Forms.{form_of, names_in};
+ghost use Rattle.std.specs.{Prelude.◌≡◌, Prelude.true, List.flat_map};
+ghost use Rattle.cmd_words.specs.{declared.topic.Topic.Topic, Topics.options_of, Topics.topics};
 ghost use Rattle.help_text.specs.Texts.{about, fits, overview, says_all, IsPartOf};
+ghost use Rattle.help_text.specs.Forms.{form_of, names_in};
 
 /// The options that stand in the form of a command are those of the list that the reader of words goes by, in their
 /// order. The form stands in both texts, which have no options but those of their forms. Something is said of each, and

@@ -1,13 +1,9 @@
 -- Bags that change at one entry.
 use Rattle.std.proofs.Common.{◌≡◌, ◌≢◌, ◌∙◌, ◌⊎◌, inl, inr, ℕ, zero, suc, ◌+◌, ◌<◌, ◌≤◌, List, [], ◌∷◌, length, refl, sym, ap, subst, arith, if◌then◌else◌}
-use Rattle.std.specs.Prelude.{◌==◌}
-use Rattle.std.specs.List.{sum_by}
-use Rattle.std.proofs.lemmas.Bool.{cases_lt, cases_eq}
-use Rattle.std.proofs.lemmas.List.Sums.{sum_by-cons}
-use Rattle.home_pick.specs.declared.bags.Entry.{Entry}
-use Rattle.home_pick.specs.Bags.{flag}
+use Rattle.std.proofs.lemmas.{Bool.cases_lt, Bool.cases_eq, List.Sums.sum_by-cons}
+use Rattle.std.specs.{Prelude.◌==◌, List.sum_by}
 use Rattle.home_pick.specs.code.Bags.{counted, times, entry_at, IsBag}
-use Rattle.home_pick.specs.code.Work.{hit, beside}
+use Rattle.home_pick.specs.{declared.bags.Entry.Entry, Bags.flag, code.Work.hit, code.Work.beside}
 use Rattle.home_pick.proofs.SumLemmas.{total, total_differ, total_none, if_same, if_apart}
 
 -- a number without entry

@@ -1,14 +1,10 @@
 -- The port that is chosen for a node.
 use Rattle.std.proofs.Common.{◌≡◌, ◌∙◌, ◌⊎◌, inl, inr, ℕ, zero, suc, ◌+◌, ◌<◌, ◌≤◌, Bool, true, false, [], ◌∷◌, ◌++◌, refl, sym, ap, subst, arith, if◌then◌else◌}
-use Rattle.std.specs.Prelude.{nat_lt}
-use Rattle.std.specs.List.{filter, fold, range_with_len}
-use Rattle.std.proofs.Math.Numerals.{add-one}
 use Rattle.std.proofs.lemmas.Bool.{cases_lt, cases_Bool, ltb-true, ltb-false, lt-ltb, le-ltb, cond-true, cond-false}
-use Rattle.std.proofs.lemmas.List.Elements.{filter-append}
-use Rattle.std.proofs.lemmas.List.Sums.{fold-append}
+use Rattle.std.proofs.{Math.Numerals.add-one, lemmas.List.Elements.filter-append, lemmas.List.Sums.fold-append}
+use Rattle.std.specs.{Prelude.nat_lt, List.filter, List.fold, List.range_with_len}
 use Rattle.list_laws.proofs.Ranges.{range_next}
-use Rattle.home_pick.specs.Better.{first_least}
-use Rattle.home_pick.specs.code.Moves.{first_most}
+use Rattle.home_pick.specs.{Better.first_least, code.Moves.first_most}
 
 range_suc : (n : ℕ) → range_with_len 0 (suc n) ≡ range_with_len 0 n ++ n ∷ []
 range_suc n = subst (λ m. range_with_len 0 m ≡ range_with_len 0 n ++ n ∷ []) (add-one n) (range_next n)

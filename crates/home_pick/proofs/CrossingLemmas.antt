@@ -1,27 +1,20 @@
 -- The crossings of homes, by the ports that use each item.
 use Rattle.std.proofs.Common.{◌≡◌, ◌≢◌, ◌∙◌, inl, inr, ℕ, suc, ◌+◌, ◌<◌, ◌≤◌, List, [], ◌∷◌, length, refl, sym, ap, subst, arith, if◌then◌else◌}
-use Rattle.std.specs.Prelude.{◌==◌}
-use Rattle.std.specs.List.{sum_by}
-use Rattle.std.proofs.lemmas.Bool.{cases_eq}
-use Rattle.std.proofs.lemmas.List.Sums.{sum_by-cons}
+use Rattle.std.proofs.lemmas.{Bool.cases_eq, List.Sums.sum_by-cons}
+use Rattle.std.specs.{Prelude.◌==◌, List.sum_by}
 use Rattle.list_laws.proofs.Ranges.{sum_more, sum_alike}
 use Rattle.machine_text.specs.declared.machine.Machine.{Machine}
-use Rattle.node_defs.specs.declared.items.NodeNet.{NodeNet}
-use Rattle.node_defs.specs.WellFormed.{IsWellFormed}
-use Rattle.plan_defs.specs.declared.plan.Homes.{Homes}
+use Rattle.node_defs.specs.{declared.items.NodeNet.NodeNet, WellFormed.IsWellFormed}
 use Rattle.plan_defs.specs.Homes.{AreHomes, home_of, block_home, host_of, ports_of}
+use Rattle.plan_defs.specs.declared.plan.Homes.{Homes}
 use Rattle.plan_defs.proofs.lemmas.PortLemmas.{home_port}
-use Rattle.home_pick.specs.declared.bags.Entry.{Entry}
-use Rattle.home_pick.specs.Bags.{flag, where_at}
-use Rattle.home_pick.specs.code.Bags.{times, entry_at, IsBag}
 use Rattle.home_pick.specs.Better.{bound_of, passes, IsBetter, NoneLowers}
 use Rattle.home_pick.specs.Crossings.{times_in, uses_by, block_uses, uses_at, reads_at, readers_at, crossings}
-use Rattle.home_pick.specs.code.Ways.{IsOnTheWay}
+use Rattle.home_pick.specs.{declared.bags.Entry.Entry, Bags.flag, Bags.where_at, code.Bags.times, code.Bags.entry_at, code.Bags.IsBag, code.Ways.IsOnTheWay}
 use Rattle.home_pick.specs.code.Work.{beside, away_by}
 use Rattle.home_pick.proofs.SumLemmas.{total, total_none, if_same, if_apart}
-use Rattle.home_pick.proofs.BagLemmas.{times_absent, times_here, total_members}
-use Rattle.home_pick.proofs.MoveLemmas.{readers_most}
 use Rattle.home_pick.proofs.PassLemmas.{passes_way, passes_most, start_way, none_lowers}
+use Rattle.home_pick.proofs.{BagLemmas.times_absent, BagLemmas.times_here, BagLemmas.total_members, MoveLemmas.readers_most}
 
 -- no port past the last uses an item
 pub uses_past : (nodes : NodeNet) (homes : Homes) (i q : ℕ) → IsWellFormed nodes → AreHomes nodes homes → ports_of homes ≤ q → uses_at nodes homes i q ≡ 0

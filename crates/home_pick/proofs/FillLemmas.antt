@@ -1,25 +1,18 @@
 -- Memories that get their ports one after another.
 use Rattle.std.proofs.Common.{◌≡◌, ◌∙◌, inl, inr, ℕ, zero, suc, ◌+◌, ◌-◌, ◌*◌, ◌^◌, ◌%◌, ◌<◌, ◌≤◌, List, [], ◌∷◌, ◌++◌, length, map, get_or, set, refl, sym, ap, subst, arith, if◌then◌else◌, eq-eqb, mod-eq_of_lt, one-mul, Some, slice_get}
-use Rattle.std.specs.Prelude.{◌==◌, max}
-use Rattle.std.specs.List.{range_with_len}
-use Rattle.std.proofs.Math.Nat.{mul-le-mul}
-use Rattle.std.proofs.Math.Pow.{pow-lt}
 use Rattle.std.proofs.lemmas.Bool.{cases_lt, cases_eq, cases_Bool, eqb-true}
 use Rattle.std.proofs.lemmas.List.{get_or_append_left, length-append, get_or-set_same, get_or-set_other, length-set, map-append}
-use Rattle.std.proofs.lemmas.List.FromFn.{length-map-range_with_len, get_or-map-range_with_len}
+use Rattle.std.proofs.{Math.Nat.mul-le-mul, Math.Pow.pow-lt, lemmas.List.FromFn.length-map-range_with_len, lemmas.List.FromFn.get_or-map-range_with_len}
 use Rattle.std.proofs.Math.Seq.{get_or-append_seam}
+use Rattle.std.specs.{Prelude.◌==◌, Prelude.max, List.range_with_len}
 use Rattle.list_laws.proofs.Ranges.{last_or, range_more, sum_more, sum_alike}
-use Rattle.machine_text.specs.declared.machine.Limited.{Limited}
-use Rattle.machine_text.specs.declared.machine.Limited.TheVariants.{Bits}
-use Rattle.machine_text.specs.declared.machine.Machine.{Machine}
-use Rattle.machine_text.specs.Limits.{limit_at}
-use Rattle.node_defs.specs.declared.items.NodeBlock.{NodeBlock}
-use Rattle.node_defs.specs.declared.items.NodeNet.{NodeNet}
-use Rattle.plan_defs.specs.Lists.{IsLeastFree}
+use Rattle.machine_text.specs.{declared.machine.Limited.Limited, declared.machine.Limited.TheVariants.Bits, declared.machine.Machine.Machine, Limits.limit_at}
+use Rattle.node_defs.specs.declared.items.{NodeBlock.NodeBlock, NodeNet.NodeNet}
 use Rattle.plan_defs.specs.Picks.{bits_of, bits_before, bit_limit, bits_left, LacksRoom, AreHoused, FindsNoPort}
+use Rattle.plan_defs.specs.Lists.{IsLeastFree}
 use Rattle.plan_defs.proofs.lemmas.PlanLemmas.{least_same}
-use Rattle.home_pick.specs.declared.blocks.Filling.{Filling}
 use Rattle.home_pick.specs.code.Rooms.{limits_of, LacksBits, IsMostLeft, AreFilled}
+use Rattle.home_pick.specs.declared.blocks.Filling.{Filling}
 
 -- ---- the bits of one memory more
 

@@ -1,27 +1,15 @@
 -- Homes that are picked are homes of their items, and the ports of one item more.
 use Rattle.std.proofs.Common.{◌≡◌, ◌≢◌, ◌∙◌, inl, inr, ℕ, ◌+◌, ◌-◌, ◌<◌, ◌≤◌, ◌%◌, Bool, true, List, [], ◌∷◌, ◌++◌, length, get_or, refl, sym, subst, arith, Option, Some, None, slice_get}
-use Rattle.std.specs.Prelude.{◌==◌, ◌&&◌, All}
-use Rattle.std.specs.List.{find}
-use Rattle.std.proofs.lemmas.Bool.{cases_lt}
-use Rattle.std.proofs.lemmas.Nat.{mod_below}
-use Rattle.std.proofs.lemmas.Option.{slice_get_within}
-use Rattle.std.proofs.lemmas.List.{get_or_append_left, length-append}
-use Rattle.list_laws.proofs.Members.{member_at}
-use Rattle.list_laws.proofs.Ranges.{last_or}
-use Rattle.machine_text.specs.declared.machine.Limited.{Limited}
-use Rattle.machine_text.specs.declared.machine.Limited.TheVariants.{Functions, Nodes, Bits}
-use Rattle.machine_text.specs.declared.machine.Machine.{Machine}
-use Rattle.machine_text.specs.declared.machine.PortLimit.{PortLimit}
-use Rattle.machine_text.specs.Limits.{same_limited, is_at}
-use Rattle.machine_text.specs.Machines.{IsValid}
+use Rattle.std.proofs.lemmas.{Bool.cases_lt, Nat.mod_below, Option.slice_get_within, List.get_or_append_left, List.length-append}
+use Rattle.std.specs.{Prelude.◌==◌, Prelude.◌&&◌, Prelude.All, List.find}
+use Rattle.list_laws.proofs.{Members.member_at, Ranges.last_or}
+use Rattle.machine_text.specs.declared.machine.Limited.{Limited, TheVariants.Functions, TheVariants.Nodes, TheVariants.Bits}
+use Rattle.machine_text.specs.{declared.machine.Machine.Machine, declared.machine.PortLimit.PortLimit, Limits.same_limited, Limits.is_at, Machines.IsValid}
 use Rattle.machine_text.proofs.lemmas.LimitLemmas.{found_is}
-use Rattle.node_defs.specs.declared.items.Item.{Item}
 use Rattle.node_defs.specs.declared.items.Item.TheVariants.{Input, BlockBit, Node, Latch}
-use Rattle.node_defs.specs.declared.items.NodeNet.{NodeNet}
-use Rattle.node_defs.specs.WellFormed.{IsWellFormed, IsComputed}
-use Rattle.plan_defs.specs.declared.plan.Homes.{Homes}
-use Rattle.plan_defs.specs.Homes.{AreHomes, MayHouse, home_of}
+use Rattle.node_defs.specs.{declared.items.Item.Item, declared.items.NodeNet.NodeNet, WellFormed.IsWellFormed, WellFormed.IsComputed}
 use Rattle.plan_defs.specs.Picks.{node_count, node_limit, node_room, AreHoused, ArePicked, IsInTurn, HasPickedHome}
+use Rattle.plan_defs.specs.{declared.plan.Homes.Homes, Homes.AreHomes, Homes.MayHouse, Homes.home_of}
 use Rattle.home_pick.specs.code.Rooms.{homes_at, AreItemPorts}
 use Rattle.home_pick.proofs.TurnLemmas.{turn_same, turn_wide}
 

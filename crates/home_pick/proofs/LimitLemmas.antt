@@ -1,21 +1,15 @@
 -- From picked homes no port gets more nodes than it may have of its own.
 use Rattle.std.proofs.Common.{◌≡◌, inl, inr, ℕ, zero, suc, ◌+◌, ◌-◌, ◌<◌, ◌≤◌, List, get_or, subst, arith}
-use Rattle.std.specs.Prelude.{Some, slice_get}
 use Rattle.std.proofs.lemmas.Bool.{cases_lt, cases_eq}
-use Rattle.list_laws.proofs.Members.{member_at}
-use Rattle.list_laws.proofs.Ranges.{sum_more}
+use Rattle.std.specs.Prelude.{Some, slice_get}
+use Rattle.list_laws.proofs.{Members.member_at, Ranges.sum_more}
 use Rattle.machine_text.specs.declared.machine.Machine.{Machine}
-use Rattle.node_defs.specs.declared.items.Item.{Item}
 use Rattle.node_defs.specs.declared.items.Item.TheVariants.{Input, BlockBit, Node, Latch}
-use Rattle.node_defs.specs.declared.items.NodeNet.{NodeNet}
-use Rattle.node_defs.specs.WellFormed.{IsComputed, IsWellFormed}
-use Rattle.plan_defs.specs.declared.plan.Homes.{Homes}
-use Rattle.plan_defs.specs.Homes.{AreHomes, home_of}
+use Rattle.node_defs.specs.{declared.items.Item.Item, declared.items.NodeNet.NodeNet, WellFormed.IsComputed, WellFormed.IsWellFormed}
 use Rattle.plan_defs.specs.Picks.{node_count, node_limit, nodes_before, ArePicked, HasPickedHome, IsFull, IsInTurn}
-use Rattle.home_pick.specs.Bags.{where_at}
-use Rattle.home_pick.specs.Better.{load_at, IsBetter}
-use Rattle.home_pick.proofs.CrossingLemmas.{better_way}
-use Rattle.home_pick.proofs.SumLemmas.{if_same, if_apart}
+use Rattle.plan_defs.specs.{declared.plan.Homes.Homes, Homes.AreHomes, Homes.home_of}
+use Rattle.home_pick.specs.{Bags.where_at, Better.load_at, Better.IsBetter}
+use Rattle.home_pick.proofs.{CrossingLemmas.better_way, SumLemmas.if_same, SumLemmas.if_apart}
 
 -- the port of a node in turn is not full before it
 turn_has_room : (nodes : NodeNet) (machine : Machine) (ports : List ℕ) (n : ℕ) → IsInTurn nodes machine ports n → nodes_before nodes ports n (get_or ports (nodes.first_node + n) 0) < node_limit machine (get_or ports (nodes.first_node + n) 0)

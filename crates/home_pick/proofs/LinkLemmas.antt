@@ -1,28 +1,18 @@
 -- What items take and which ports use them, one item and memory after another.
 use Rattle.std.proofs.Common.{◌≡◌, ◌≢◌, ◌∙◌, ◌⊎◌, inl, inr, ℕ, zero, suc, ◌+◌, ◌<◌, ◌≤◌, List, [], ◌∷◌, ◌++◌, length, get_or, refl, sym, ap, subst, arith}
+use Rattle.std.proofs.lemmas.List.{get_or_past, get_or_append_left, get_or_push, length_push}
+use Rattle.std.proofs.lemmas.{Bool.cases_lt, Bool.cases_eq, List.Elements.Contains-get_or}
 use Rattle.std.specs.Prelude.{Option, None, Some, slice_get}
 use Rattle.std.specs.List.{Contains}
-use Rattle.std.proofs.lemmas.Bool.{cases_lt, cases_eq}
-use Rattle.std.proofs.lemmas.List.{get_or_past, get_or_append_left, get_or_push, length_push}
-use Rattle.std.proofs.lemmas.List.Elements.{Contains-get_or}
 use Rattle.list_laws.proofs.Ranges.{sum_more}
-use Rattle.node_defs.specs.declared.items.Feed.{Feed}
-use Rattle.node_defs.specs.declared.items.Feed.TheVariants.{From, Fixed}
-use Rattle.node_defs.specs.declared.items.Item.{Item}
 use Rattle.node_defs.specs.declared.items.Item.TheVariants.{Input, BlockBit, Node, Latch}
-use Rattle.node_defs.specs.declared.items.NodeBlock.{NodeBlock}
-use Rattle.node_defs.specs.declared.items.NodeNet.{NodeNet}
-use Rattle.node_defs.specs.Takes.{FeedTakes, Takes}
-use Rattle.node_defs.specs.WellFormed.{IsWellFormed}
-use Rattle.plan_defs.specs.declared.plan.Homes.{Homes}
-use Rattle.plan_defs.specs.Homes.{home_of, block_home, host_of}
-use Rattle.home_pick.specs.declared.bags.Entry.{Entry}
-use Rattle.home_pick.specs.Bags.{where_at}
-use Rattle.home_pick.specs.code.Bags.{times}
+use Rattle.node_defs.specs.declared.items.{Feed.Feed, Feed.TheVariants.From, Feed.TheVariants.Fixed, Item.Item, NodeBlock.NodeBlock, NodeNet.NodeNet}
+use Rattle.node_defs.specs.{Takes.FeedTakes, Takes.Takes, WellFormed.IsWellFormed}
+use Rattle.plan_defs.specs.{declared.plan.Homes.Homes, Homes.home_of, Homes.block_home, Homes.host_of}
 use Rattle.home_pick.specs.Crossings.{times_in, feed_uses, item_uses, maybe_item_uses, memory_uses, block_uses, uses_by, uses_at}
 use Rattle.home_pick.specs.code.Uses.{bag_at, AreBags, AreTakes, AreUses, Gives}
-use Rattle.home_pick.proofs.SumLemmas.{total, if_apart}
-use Rattle.home_pick.proofs.UseLemmas.{gives_both}
+use Rattle.home_pick.specs.{declared.bags.Entry.Entry, Bags.where_at, code.Bags.times}
+use Rattle.home_pick.proofs.{SumLemmas.total, SumLemmas.if_apart, UseLemmas.gives_both}
 
 -- ---- what an item takes
 

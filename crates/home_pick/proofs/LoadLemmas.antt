@@ -1,22 +1,13 @@
 -- Nodes that are counted one after another, and the homes of nodes.
 use Rattle.std.proofs.Common.{◌≡◌, ◌∙◌, inl, inr, ℕ, ◌+◌, ◌<◌, ◌≤◌, List, length, get_or, set, sym, ap, subst, arith}
-use Rattle.std.specs.Prelude.{max}
-use Rattle.std.specs.List.{fold, range_with_len}
-use Rattle.std.proofs.lemmas.Bool.{cases_eq}
-use Rattle.std.proofs.lemmas.List.{get_or-set_same, get_or-set_other}
-use Rattle.std.proofs.lemmas.List.Sums.{fold_push}
-use Rattle.std.proofs.lemmas.Option.{slice_get_cases}
+use Rattle.std.proofs.lemmas.{Bool.cases_eq, List.get_or-set_same, List.get_or-set_other, List.Sums.fold_push, Option.slice_get_cases}
+use Rattle.std.specs.{Prelude.max, List.fold, List.range_with_len}
 use Rattle.list_laws.proofs.Ranges.{range_next, sum_more}
-use Rattle.node_defs.specs.declared.items.Item.{Item}
 use Rattle.node_defs.specs.declared.items.Item.TheVariants.{Input, BlockBit, Node, Latch}
-use Rattle.node_defs.specs.declared.items.NodeNet.{NodeNet}
-use Rattle.node_defs.specs.WellFormed.{IsComputed, IsWellFormed}
-use Rattle.plan_defs.specs.declared.plan.Homes.{Homes}
-use Rattle.plan_defs.specs.Homes.{AreHomes, MayHouse, home_of}
-use Rattle.plan_defs.specs.Picks.{node_count, nodes_before}
+use Rattle.node_defs.specs.{declared.items.Item.Item, declared.items.NodeNet.NodeNet, WellFormed.IsComputed, WellFormed.IsWellFormed}
+use Rattle.plan_defs.specs.{declared.plan.Homes.Homes, Homes.AreHomes, Homes.MayHouse, Homes.home_of, Picks.node_count, Picks.nodes_before}
 use Rattle.plan_defs.proofs.lemmas.CountLemmas.{few_before}
-use Rattle.home_pick.specs.Bags.{where_at}
-use Rattle.home_pick.specs.Better.{load_at}
+use Rattle.home_pick.specs.{Bags.where_at, Better.load_at}
 use Rattle.home_pick.proofs.SumLemmas.{if_same, if_apart}
 
 computed_home : (homes : Homes) (item : Item) (port : ℕ) → IsComputed item → MayHouse homes item port → port < homes.logic

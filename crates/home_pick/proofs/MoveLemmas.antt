@@ -1,20 +1,15 @@
 -- Nodes that move: what stays the same wherever a node is.
 use Rattle.std.proofs.Common.{◌≡◌, ◌≢◌, ◌∙◌, inl, inr, ℕ, ◌+◌, ◌-◌, ◌<◌, ◌≤◌, length, refl, sym, ap, subst, arith, if◌then◌else◌}
-use Rattle.std.specs.Prelude.{◌==◌}
-use Rattle.std.proofs.lemmas.Bool.{cases_eq}
 use Rattle.std.proofs.lemmas.List.{get_or-set_same, get_or-set_other, length-set, set-get_or}
+use Rattle.std.proofs.lemmas.Bool.{cases_eq}
+use Rattle.std.specs.Prelude.{◌==◌}
 use Rattle.list_laws.proofs.Ranges.{sum_alike}
-use Rattle.node_defs.specs.declared.items.Item.{Item}
 use Rattle.node_defs.specs.declared.items.Item.TheVariants.{Input, BlockBit, Node, Latch}
-use Rattle.node_defs.specs.declared.items.NodeNet.{NodeNet}
-use Rattle.node_defs.specs.WellFormed.{IsComputed, IsWellFormed}
-use Rattle.plan_defs.specs.declared.plan.Homes.{Homes}
+use Rattle.node_defs.specs.{declared.items.Item.Item, declared.items.NodeNet.NodeNet, WellFormed.IsComputed, WellFormed.IsWellFormed}
 use Rattle.plan_defs.specs.Homes.{AreHomes, MayHouse, home_of, ports_of}
-use Rattle.plan_defs.specs.Picks.{node_count}
-use Rattle.home_pick.specs.Bags.{flag, where_at}
-use Rattle.home_pick.specs.Better.{load_at}
+use Rattle.plan_defs.specs.{declared.plan.Homes.Homes, Picks.node_count}
 use Rattle.home_pick.specs.Crossings.{uses_by, uses_at, reads_at, readers_at, crossings, moved}
-use Rattle.home_pick.specs.code.Moves.{others_at, pull_by, pull_at}
+use Rattle.home_pick.specs.{Bags.flag, Bags.where_at, Better.load_at, code.Moves.others_at, code.Moves.pull_by, code.Moves.pull_at}
 use Rattle.home_pick.proofs.SumLemmas.{total, total_at, total_both, total_most, if_same, if_apart, pull_one, pull_own, flag_most}
 
 -- a node that stays is where it was

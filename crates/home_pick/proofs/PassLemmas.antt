@@ -1,22 +1,14 @@
 -- Passes over the nodes.
 use Rattle.std.proofs.Common.{◌≡◌, ◌∙◌, ◌⊎◌, inl, inr, ℕ, zero, suc, ◌+◌, ◌-◌, ◌<◌, ◌≤◌, true, List, [], ◌∷◌, length, get_or, refl, sym, ap, subst, arith}
-use Rattle.std.specs.Prelude.{max}
-use Rattle.std.specs.List.{fold, range_with_len}
-use Rattle.std.proofs.lemmas.Bool.{cases_lt, cases_eq, ltb-true}
-use Rattle.std.proofs.lemmas.List.FromFn.{length-range_with_len, get_or-range_with_len}
+use Rattle.std.proofs.lemmas.{Bool.cases_lt, Bool.cases_eq, Bool.ltb-true, List.FromFn.length-range_with_len, List.FromFn.get_or-range_with_len}
+use Rattle.std.specs.{Prelude.max, List.fold, List.range_with_len}
 use Rattle.machine_text.specs.declared.machine.Machine.{Machine}
-use Rattle.node_defs.specs.declared.items.NodeNet.{NodeNet}
-use Rattle.node_defs.specs.WellFormed.{IsWellFormed}
-use Rattle.plan_defs.specs.declared.plan.Homes.{Homes}
-use Rattle.plan_defs.specs.Homes.{AreHomes, home_of}
-use Rattle.plan_defs.specs.Picks.{node_count}
-use Rattle.home_pick.specs.Bags.{where_at}
-use Rattle.home_pick.specs.Crossings.{crossings, moved}
+use Rattle.node_defs.specs.{declared.items.NodeNet.NodeNet, WellFormed.IsWellFormed}
+use Rattle.plan_defs.specs.{declared.plan.Homes.Homes, Homes.AreHomes, Homes.home_of, Picks.node_count}
 use Rattle.home_pick.specs.Better.{load_at, most_load, bound_of, most_at, has_room, best_port, settled, settled_from, node_numbers, pass, passes, IsBetter, NoneLowers}
-use Rattle.home_pick.specs.code.Ways.{IsOnTheWay}
-use Rattle.home_pick.proofs.SumLemmas.{if_same, if_apart}
+use Rattle.home_pick.specs.{Bags.where_at, Crossings.crossings, Crossings.moved, code.Ways.IsOnTheWay}
 use Rattle.home_pick.proofs.MoveLemmas.{moved_own, moved_away, moved_homes, load_moved}
-use Rattle.home_pick.proofs.ChoiceLemmas.{least_less, least_where, least_low}
+use Rattle.home_pick.proofs.{SumLemmas.if_same, SumLemmas.if_apart, ChoiceLemmas.least_less, ChoiceLemmas.least_where, ChoiceLemmas.least_low}
 
 -- ---- one node
 

@@ -1,20 +1,11 @@
 -- Pulls that are added up.
 use Rattle.std.proofs.Common.{◌≡◌, ◌≢◌, ◌∙◌, ◌⊎◌, inl, inr, ℕ, ◌+◌, ◌<◌, ◌≤◌, List, length, take, refl, sym, ap, subst, arith, if◌then◌else◌}
-use Rattle.std.specs.Prelude.{◌==◌}
-use Rattle.std.specs.List.{sum_by}
-use Rattle.std.proofs.lemmas.Bool.{cases_eq}
-use Rattle.std.proofs.lemmas.List.Sums.{sum_by_more_le}
-use Rattle.node_defs.specs.declared.items.NodeNet.{NodeNet}
-use Rattle.node_defs.specs.WellFormed.{IsWellFormed}
-use Rattle.plan_defs.specs.declared.plan.Homes.{Homes}
-use Rattle.plan_defs.specs.Homes.{home_of}
-use Rattle.home_pick.specs.declared.bags.Entry.{Entry}
-use Rattle.home_pick.specs.Bags.{flag}
-use Rattle.home_pick.specs.code.Bags.{times, entry_at, IsBag}
-use Rattle.home_pick.specs.Crossings.{uses_by}
-use Rattle.home_pick.specs.code.Moves.{others_at, pull_by, pull_at}
-use Rattle.home_pick.specs.code.Uses.{bag_at, AreTakes}
-use Rattle.home_pick.specs.code.Work.{hit, beside, AddsEvenly}
+use Rattle.std.proofs.lemmas.{Bool.cases_eq, List.Sums.sum_by_more_le}
+use Rattle.std.specs.{Prelude.◌==◌, List.sum_by}
+use Rattle.node_defs.specs.{declared.items.NodeNet.NodeNet, WellFormed.IsWellFormed}
+use Rattle.plan_defs.specs.{declared.plan.Homes.Homes, Homes.home_of}
+use Rattle.home_pick.specs.{declared.bags.Entry.Entry, Bags.flag, code.Bags.times, code.Bags.entry_at, code.Bags.IsBag, Crossings.uses_by}
+use Rattle.home_pick.specs.code.{Moves.others_at, Moves.pull_by, Moves.pull_at, Uses.bag_at, Uses.AreTakes, Work.hit, Work.beside, Work.AddsEvenly}
 use Rattle.home_pick.proofs.SumLemmas.{if_same, if_apart, flag_some, flag_most}
 use Rattle.home_pick.proofs.BagLemmas.{times_absent, times_here, hits_flag, total_members}
 use Rattle.home_pick.proofs.LinkLemmas.{uses_low}

@@ -1,34 +1,20 @@
 -- The crossings are the readers of all items.
 use Rattle.std.proofs.Common.{◌≡◌, ◌≢◌, ◌∙◌, inl, inr, ℕ, zero, suc, ◌+◌, ◌<◌, ◌≤◌, List, [], ◌∷◌, length, map, get_or, refl, sym, ap, arith, if◌then◌else◌}
-use Rattle.std.specs.Prelude.{◌==◌, Some}
-use Rattle.std.specs.List.{sum_by, range_with_len, Contains}
-use Rattle.std.proofs.lemmas.Bool.{cases_eq}
-use Rattle.std.proofs.lemmas.Option.{slice_get_within, slice_get_cases}
-use Rattle.std.proofs.lemmas.List.{get_or-map, length-map, get_or_default}
-use Rattle.std.proofs.lemmas.List.FromFn.{length-range_with_len, get_or-range_with_len}
-use Rattle.std.proofs.lemmas.List.Kept.{AllPairs-from_increasing}
+use Rattle.std.proofs.lemmas.{Bool.cases_eq, Option.slice_get_within, Option.slice_get_cases, List.get_or-map, List.length-map, List.get_or_default}
+use Rattle.std.proofs.lemmas.List.{FromFn.length-range_with_len, FromFn.get_or-range_with_len, Kept.AllPairs-from_increasing}
 use Rattle.std.proofs.lemmas.List.Sums.{sum_by-cons, get_or-le-sum_by}
+use Rattle.std.specs.{Prelude.◌==◌, Prelude.Some, List.sum_by, List.range_with_len, List.Contains}
 use Rattle.list_laws.proofs.Ranges.{sum_more, sum_alike}
-use Rattle.node_defs.specs.declared.items.Feed.{Feed}
-use Rattle.node_defs.specs.declared.items.Feed.TheVariants.{From, Fixed}
-use Rattle.node_defs.specs.declared.items.Item.{Item}
 use Rattle.node_defs.specs.declared.items.Item.TheVariants.{Input, BlockBit, Node, Latch}
-use Rattle.node_defs.specs.declared.items.NodeBlock.{NodeBlock}
-use Rattle.node_defs.specs.declared.items.NodeNet.{NodeNet}
-use Rattle.node_defs.specs.Takes.{FeedTakes, Takes, BlockTakes}
-use Rattle.node_defs.specs.WellFormed.{IsWellFormed}
-use Rattle.plan_defs.specs.declared.plan.Homes.{Homes}
+use Rattle.node_defs.specs.declared.items.{Feed.Feed, Feed.TheVariants.From, Feed.TheVariants.Fixed, Item.Item, NodeBlock.NodeBlock, NodeNet.NodeNet}
+use Rattle.node_defs.specs.{Takes.FeedTakes, Takes.Takes, Takes.BlockTakes, WellFormed.IsWellFormed}
 use Rattle.plan_defs.specs.Homes.{AreHomes, home_of, block_home, host_of, ports_of}
-use Rattle.plan_defs.specs.Readers.{IsUser, IsReader, IsReaderList}
+use Rattle.plan_defs.specs.{declared.plan.Homes.Homes, Readers.IsUser, Readers.IsReader, Readers.IsReaderList}
 use Rattle.plan_defs.proofs.lemmas.PortLemmas.{home_port, reader_port}
-use Rattle.home_pick.specs.declared.bags.Entry.{Entry}
-use Rattle.home_pick.specs.Bags.{flag, where_at}
-use Rattle.home_pick.specs.code.Bags.{entry_at, IsBag}
 use Rattle.home_pick.specs.Crossings.{times_in, feed_uses, item_uses, memory_uses, block_uses, uses_by, uses_at, reads_at, readers_at, crossings}
-use Rattle.home_pick.specs.code.Work.{beside}
+use Rattle.home_pick.specs.{declared.bags.Entry.Entry, Bags.flag, Bags.where_at, code.Bags.entry_at, code.Bags.IsBag, code.Work.beside}
 use Rattle.home_pick.proofs.SumLemmas.{total, if_same, if_apart, flag_some}
-use Rattle.home_pick.proofs.BagLemmas.{total_members}
-use Rattle.home_pick.proofs.LinkLemmas.{item_takes, uses_is, block_is}
+use Rattle.home_pick.proofs.{BagLemmas.total_members, LinkLemmas.item_takes, LinkLemmas.uses_is, LinkLemmas.block_is}
 
 -- ---- some and none
 

@@ -1,23 +1,13 @@
 -- Items that are used at each logic port.
 use Rattle.std.proofs.Common.{◌≡◌, ◌≢◌, ◌∙◌, inl, inr, ℕ, ◌<◌, Bool, true, false, List, length, replicate, get_or, sym, ap, arith}
-use Rattle.std.proofs.lemmas.Bool.{cases_eq}
-use Rattle.std.proofs.lemmas.List.{length-replicate}
+use Rattle.std.proofs.lemmas.{Bool.cases_eq, List.length-replicate}
 use Rattle.list_laws.proofs.Ranges.{replicate_read}
-use Rattle.node_defs.specs.declared.items.NodeNet.{NodeNet}
-use Rattle.node_defs.specs.WellFormed.{IsWellFormed}
-use Rattle.plan_defs.specs.declared.plan.Homes.{Homes}
-use Rattle.plan_defs.specs.Homes.{AreHomes, home_of}
-use Rattle.home_pick.specs.declared.bags.Entry.{Entry}
-use Rattle.home_pick.specs.Bags.{flag}
-use Rattle.home_pick.specs.code.Bags.{times}
-use Rattle.home_pick.specs.Crossings.{uses_by, moved}
-use Rattle.home_pick.specs.code.Moves.{others_at, pull_by, AreUsesWithout}
-use Rattle.home_pick.specs.code.Spread.{AreSpread, AreSpreadWithout, Unmarks}
-use Rattle.home_pick.specs.code.Uses.{bag_at}
+use Rattle.node_defs.specs.{declared.items.NodeNet.NodeNet, WellFormed.IsWellFormed}
+use Rattle.plan_defs.specs.{declared.plan.Homes.Homes, Homes.AreHomes, Homes.home_of}
+use Rattle.home_pick.specs.{declared.bags.Entry.Entry, Bags.flag, code.Bags.times, Crossings.uses_by, Crossings.moved}
+use Rattle.home_pick.specs.code.{Moves.others_at, Moves.pull_by, Moves.AreUsesWithout, Spread.AreSpread, Spread.AreSpreadWithout, Spread.Unmarks, Uses.bag_at}
 use Rattle.home_pick.specs.code.Work.{beside}
-use Rattle.home_pick.proofs.SumLemmas.{if_same, if_apart, flag_some}
-use Rattle.home_pick.proofs.LinkLemmas.{uses_low}
-use Rattle.home_pick.proofs.MoveLemmas.{uses_home, uses_moved}
+use Rattle.home_pick.proofs.{SumLemmas.if_same, SumLemmas.if_apart, SumLemmas.flag_some, LinkLemmas.uses_low, MoveLemmas.uses_home, MoveLemmas.uses_moved}
 use Rattle.home_pick.proofs.PullLemmas.{used_pull}
 
 -- nothing is marked

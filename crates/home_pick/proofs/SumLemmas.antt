@@ -1,9 +1,8 @@
 -- Sums over the first so many numbers.
 use Rattle.std.proofs.Common.{◌≡◌, ◌≢◌, ◌∙◌, inl, inr, ℕ, zero, suc, ◌+◌, ◌*◌, ◌<◌, ◌≤◌, refl, sym, ap, subst, arith, if◌then◌else◌}
-use Rattle.std.specs.Prelude.{◌==◌}
-use Rattle.std.specs.List.{sum_by, range_with_len}
-use Rattle.std.proofs.Math.Numerals.{add-one}
 use Rattle.std.proofs.lemmas.Bool.{cases_eq, eq-eqb, cond-true, cond-false, ne_eqb}
+use Rattle.std.proofs.Math.Numerals.{add-one}
+use Rattle.std.specs.{Prelude.◌==◌, List.sum_by, List.range_with_len}
 use Rattle.list_laws.proofs.Ranges.{sum_more, sum_alike}
 use Rattle.home_pick.specs.Bags.{flag}
 

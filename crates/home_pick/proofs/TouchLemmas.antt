@@ -1,15 +1,10 @@
 -- Ports that are touched, and the best of them.
 use Rattle.std.proofs.Common.{◌≡◌, ◌≢◌, ◌∙◌, ◌⊎◌, inl, inr, ℕ, zero, suc, ◌+◌, ◌<◌, ◌≤◌, Bool, true, false, List, [], length, replicate, get_or, take, refl, sym, ap, subst, arith, if◌then◌else◌}
-use Rattle.std.specs.Prelude.{◌==◌, nat_lt, slice_index}
-use Rattle.std.specs.List.{Contains}
-use Rattle.std.proofs.Math.Numerals.{add-one}
-use Rattle.std.proofs.Math.Seq.{take-suc}
 use Rattle.std.proofs.lemmas.Bool.{cases_lt, cases_eq, cases_Bool, lt-ltb, le-ltb, eq-eqb, ne_eqb, both_ways, cond-true, cond-false}
-use Rattle.std.proofs.lemmas.List.{take_all}
-use Rattle.std.proofs.lemmas.List.Elements.{Contains-push_cases}
+use Rattle.std.proofs.{Math.Numerals.add-one, Math.Seq.take-suc, lemmas.List.take_all, lemmas.List.Elements.Contains-push_cases}
+use Rattle.std.specs.{Prelude.◌==◌, Prelude.nat_lt, Prelude.slice_index, List.Contains}
 use Rattle.list_laws.proofs.Ranges.{replicate_read}
-use Rattle.home_pick.specs.declared.pulls.Pulls.{Pulls}
-use Rattle.home_pick.specs.code.Touched.{AreTouched, is_better}
+use Rattle.home_pick.specs.{declared.pulls.Pulls.Pulls, code.Touched.AreTouched, code.Touched.is_better}
 use Rattle.home_pick.proofs.ChoiceLemmas.{most_of, most_more}
 
 -- nothing pulls

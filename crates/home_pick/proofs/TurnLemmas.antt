@@ -1,24 +1,17 @@
 -- Nodes that get their ports in turn.
 use Rattle.std.proofs.Common.{◌≡◌, ◌≢◌, ◌∙◌, ◌⊎◌, inl, inr, ℕ, suc, ◌+◌, ◌-◌, ◌%◌, ◌<◌, ◌≤◌, List, [], ◌∷◌, ◌++◌, length, get_or, set, replicate, take, refl, sym, ap, subst, arith, if◌then◌else◌}
-use Rattle.std.specs.Prelude.{◌==◌}
-use Rattle.std.specs.List.{sum, range_with_len}
-use Rattle.std.proofs.Math.Nat.{mod-add-mod, mod-eq_of_lt, add-mod_right}
-use Rattle.std.proofs.lemmas.Bool.{cases_lt, cases_eq}
-use Rattle.std.proofs.lemmas.Grind.{common_steps}
-use Rattle.std.proofs.lemmas.Nat.{mod_below}
 use Rattle.std.proofs.lemmas.List.{get_or_append_left, get_or-set_same, get_or-set_other, length-set, get_or-replicate, length-replicate}
-use Rattle.std.proofs.lemmas.List.FromFn.{length-range_with_len, get_or-range_with_len}
 use Rattle.std.proofs.lemmas.List.Sums.{sum-map, sum_by-set, sum_by-cons, get_or-le-sum_by}
+use Rattle.std.proofs.{Math.Nat.mod-add-mod, Math.Nat.mod-eq_of_lt, Math.Nat.add-mod_right, lemmas.Bool.cases_lt, lemmas.Bool.cases_eq}
+use Rattle.std.proofs.lemmas.{Grind.common_steps, Nat.mod_below, List.FromFn.length-range_with_len, List.FromFn.get_or-range_with_len}
 use Rattle.std.proofs.Math.Seq.{get_or-append_seam}
+use Rattle.std.specs.{Prelude.◌==◌, List.sum, List.range_with_len}
 use Rattle.list_laws.proofs.Ranges.{sum_more, sum_alike}
-use Rattle.machine_text.specs.declared.machine.Limited.TheVariants.{Nodes}
-use Rattle.machine_text.specs.declared.machine.Machine.{Machine}
-use Rattle.machine_text.specs.Limits.{limit_at}
+use Rattle.machine_text.specs.{declared.machine.Limited.TheVariants.Nodes, declared.machine.Machine.Machine, Limits.limit_at}
 use Rattle.node_defs.specs.declared.items.NodeNet.{NodeNet}
-use Rattle.plan_defs.specs.Lists.{IsLeastFree}
 use Rattle.plan_defs.specs.Picks.{node_limit, node_room, nodes_before, IsFull, IsInTurn}
-use Rattle.plan_defs.proofs.lemmas.PlanLemmas.{least_one, least_same}
-use Rattle.plan_defs.proofs.lemmas.CountLemmas.{few_before}
+use Rattle.plan_defs.specs.Lists.{IsLeastFree}
+use Rattle.plan_defs.proofs.lemmas.{PlanLemmas.least_one, PlanLemmas.least_same, CountLemmas.few_before}
 use Rattle.home_pick.specs.code.Rooms.{limits_of, IsSpent, AreTurned}
 use Rattle.home_pick.proofs.FillLemmas.{at_same, at_other, limits_at, limits_count}
 

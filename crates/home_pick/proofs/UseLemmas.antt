@@ -1,11 +1,7 @@
 -- Lists of bags that change.
 use Rattle.std.proofs.Common.{◌≡◌, ◌≢◌, ◌∙◌, inl, inr, ℕ, ◌+◌, ◌<◌, ◌≤◌, List, length, take, refl, arith}
-use Rattle.std.proofs.lemmas.Bool.{cases_eq}
-use Rattle.std.proofs.lemmas.List.Sums.{sum_by_more_le}
-use Rattle.home_pick.specs.declared.bags.Entry.{Entry}
-use Rattle.home_pick.specs.Bags.{where_at}
-use Rattle.home_pick.specs.code.Bags.{counted, times, entry_at}
-use Rattle.home_pick.specs.code.Uses.{bag_at, Gives}
+use Rattle.std.proofs.lemmas.{Bool.cases_eq, List.Sums.sum_by_more_le}
+use Rattle.home_pick.specs.{declared.bags.Entry.Entry, Bags.where_at, code.Bags.counted, code.Bags.times, code.Bags.entry_at, code.Uses.bag_at, code.Uses.Gives}
 use Rattle.home_pick.proofs.SumLemmas.{if_same}
 
 -- one change after another

@@ -1,33 +1,20 @@
 -- A node that is lifted and put.
 use Rattle.std.proofs.Common.{◌≡◌, ◌≢◌, ◌∙◌, inl, inr, ℕ, suc, ◌+◌, ◌<◌, ◌≤◌, List, [], ◌∷◌, length, refl, sym, ap, arith}
-use Rattle.std.specs.Prelude.{nat_lt, slice_index}
-use Rattle.std.specs.List.{filter, range_with_len}
-use Rattle.std.proofs.lemmas.Bool.{cases_eq}
-use Rattle.std.proofs.lemmas.List.Sums.{fold-append}
+use Rattle.std.proofs.lemmas.{Bool.cases_eq, List.Sums.fold-append}
+use Rattle.std.specs.{Prelude.nat_lt, Prelude.slice_index, List.filter, List.range_with_len}
 use Rattle.list_laws.proofs.Ranges.{range_more}
 use Rattle.machine_text.specs.declared.machine.Machine.{Machine}
-use Rattle.node_defs.specs.declared.items.NodeNet.{NodeNet}
-use Rattle.node_defs.specs.WellFormed.{IsWellFormed}
-use Rattle.plan_defs.specs.declared.plan.Homes.{Homes}
-use Rattle.plan_defs.specs.Homes.{AreHomes, home_of, ports_of}
-use Rattle.plan_defs.specs.Picks.{node_count}
+use Rattle.node_defs.specs.{declared.items.NodeNet.NodeNet, WellFormed.IsWellFormed}
+use Rattle.plan_defs.specs.{declared.plan.Homes.Homes, Homes.AreHomes, Homes.home_of, Homes.ports_of, Picks.node_count}
 use Rattle.plan_defs.proofs.lemmas.CountLemmas.{few_before}
-use Rattle.home_pick.specs.declared.bags.Entry.{Entry}
-use Rattle.home_pick.specs.declared.moves.Work.{Work}
-use Rattle.home_pick.specs.Bags.{where_at}
-use Rattle.home_pick.specs.code.Bags.{times}
 use Rattle.home_pick.specs.Better.{load_at, most_at, has_room, best_port, settled, settled_from, pass, passes, bound_of, IsBetter}
 use Rattle.home_pick.specs.Crossings.{uses_by, uses_at, reads_at, readers_at, crossings, moved}
-use Rattle.home_pick.specs.code.Moves.{pull_at, first_most, AreUsesWithout}
 use Rattle.home_pick.specs.code.Uses.{bag_at, AreBags, AreUses, Gives}
-use Rattle.home_pick.specs.code.Work.{AreLoads, AreMost, room_in}
-use Rattle.home_pick.specs.code.Working.{IsLifted}
+use Rattle.home_pick.specs.{declared.bags.Entry.Entry, declared.moves.Work.Work, Bags.where_at, code.Bags.times}
+use Rattle.home_pick.specs.code.{Moves.pull_at, Moves.first_most, Moves.AreUsesWithout, Work.AreLoads, Work.AreMost, Work.room_in, Working.IsLifted}
 use Rattle.home_pick.proofs.SumLemmas.{total, total_most, if_same, if_apart}
-use Rattle.home_pick.proofs.ChoiceLemmas.{least_is_most}
-use Rattle.home_pick.proofs.LinkLemmas.{uses_low}
-use Rattle.home_pick.proofs.LoadLemmas.{node_home}
 use Rattle.home_pick.proofs.MoveLemmas.{uses_moved, uses_home, same_total, moved_total, readers_most, load_moved}
-use Rattle.home_pick.proofs.PassLemmas.{pass_cases}
+use Rattle.home_pick.proofs.{ChoiceLemmas.least_is_most, LinkLemmas.uses_low, LoadLemmas.node_home, PassLemmas.pass_cases}
 
 -- ---- lifting
 

@@ -3,9 +3,7 @@ use Rattle.std.specs.Prelude.{◌≡◌, ℕ, zero, suc, ◌+◌, ◌*◌, ◌/�
 use Rattle.std.specs.List.{filter, fold, range_with_len}
 use Rattle.machine_text.specs.declared.machine.Machine.{Machine}
 use Rattle.node_defs.specs.declared.items.NodeNet.{NodeNet}
-use Rattle.plan_defs.specs.declared.plan.Homes.{Homes}
-use Rattle.plan_defs.specs.Homes.{home_of}
-use Rattle.plan_defs.specs.Picks.{node_count, node_limit, nodes_before}
+use Rattle.plan_defs.specs.{declared.plan.Homes.Homes, Homes.home_of, Picks.node_count, Picks.node_limit, Picks.nodes_before}
 use Rattle.home_pick.specs.Crossings.{crossings, moved}
 
 -- ---- room

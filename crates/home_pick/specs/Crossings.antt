@@ -1,14 +1,10 @@
 -- How often ports use items, and the crossings: the pairs of an item and a port that reads it.
 use Rattle.std.specs.Prelude.{ℕ, ◌+◌, ◌==◌, if◌then◌else◌, List, length, count_by, Option, Some, None, slice_get, slice_set}
 use Rattle.std.specs.List.{sum_by, range_with_len}
-use Rattle.node_defs.specs.declared.items.Feed.{Feed}
-use Rattle.node_defs.specs.declared.items.Feed.TheVariants.{From, Fixed}
-use Rattle.node_defs.specs.declared.items.Item.{Item}
 use Rattle.node_defs.specs.declared.items.Item.TheVariants.{Input, BlockBit, Node, Latch}
-use Rattle.node_defs.specs.declared.items.NodeBlock.{NodeBlock}
-use Rattle.node_defs.specs.declared.items.NodeNet.{NodeNet}
-use Rattle.plan_defs.specs.declared.plan.Homes.{Homes}
+use Rattle.node_defs.specs.declared.items.{Feed.Feed, Feed.TheVariants.From, Feed.TheVariants.Fixed, Item.Item, NodeBlock.NodeBlock, NodeNet.NodeNet}
 use Rattle.plan_defs.specs.Homes.{home_of, block_home, host_of, ports_of}
+use Rattle.plan_defs.specs.declared.plan.Homes.{Homes}
 use Rattle.home_pick.specs.Bags.{flag, where_at}
 
 -- ---- uses

@@ -2,8 +2,7 @@
 use Rattle.machine_text.specs.declared.machine.Machine.{Machine}
 use Rattle.node_defs.specs.declared.items.NodeNet.{NodeNet}
 use Rattle.plan_defs.specs.Picks.{FindsNoPort, HasTooManyNodes}
-use Rattle.home_pick.specs.declared.pick.HomeNo.{HomeNo}
-use Rattle.home_pick.specs.declared.pick.HomeNo.TheVariants.{Bits, Memory, Nodes}
+use Rattle.home_pick.specs.declared.pick.HomeNo.{HomeNo, TheVariants.Bits, TheVariants.Memory, TheVariants.Nodes}
 
 -- what a refusal says is so
 abbrev pub IsRight : NodeNet → Machine → HomeNo → Type 0

@@ -1,9 +1,7 @@
 //! Numbers that stand several times, each with how often.
 
 ghost use Rattle.std.specs.Prelude.{◌≡◌, ◌≢◌, ℕ, ◌+◌, ◌<◌, ◌≤◌, OnOk, length};
-ghost use Rattle.home_pick.specs.Bags.{where_at};
-ghost use Rattle.home_pick.specs.code.Bags.{times, entry_at, IsBag};
-ghost use Rattle.home_pick.specs.code.Uses.{bag_at};
+ghost use Rattle.home_pick.specs.{Bags.where_at, code.Bags.times, code.Bags.entry_at, code.Bags.IsBag, code.Uses.bag_at};
 
 use seen_list::{List, Memory};
 

@@ -3,8 +3,7 @@
 ghost use Rattle.std.specs.Prelude.{◌≡◌, ◌+◌, ◌*◌, ◌^◌, ◌<◌, ◌≤◌, ◌⊎◌, ℕ, IfOk, OnOk, IsNone, IfSome, length, slice_index};
 ghost use Rattle.limits.specs.declared.TheConstants.{MAX_ADDRESS_BITS, MAX_WORD_BITS};
 ghost use Rattle.machine_text.specs.Machines.{IsValid};
-ghost use Rattle.plan_defs.specs.Lists.{IsLeastFree};
-ghost use Rattle.plan_defs.specs.Picks.{bits_of};
+ghost use Rattle.plan_defs.specs.{Lists.IsLeastFree, Picks.bits_of};
 ghost use Rattle.home_pick.specs.code.Rooms.{LacksBits, IsMostLeft, AreFilled};
 
 use crate::ports::limits_of;

@@ -5,9 +5,7 @@ ghost use Rattle.std.specs.List.{sum_by};
 ghost use Rattle.node_defs.specs.WellFormed.{IsWellFormed};
 ghost use Rattle.plan_defs.specs.Homes.{AreHomes, home_of};
 ghost use Rattle.home_pick.specs.Better.{bound_of as bound_from, IsBetter, IsFilled, IsWithin, KeepsOthers, NoneLowers};
-ghost use Rattle.home_pick.specs.Crossings.{crossings, readers_at};
-ghost use Rattle.home_pick.specs.code.Uses.{AreTakes, AreUses};
-ghost use Rattle.home_pick.specs.code.Work.{away_by, AreLoads};
+ghost use Rattle.home_pick.specs.{Crossings.crossings, Crossings.readers_at, code.Uses.AreTakes, code.Uses.AreUses, code.Work.away_by, code.Work.AreLoads};
 ghost use Rattle.home_pick.specs.code.Working.{IsWork};
 
 use crate::bags::{Entry, bag_of};

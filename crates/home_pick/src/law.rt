@@ -1,24 +1,15 @@
 //! Laws of picked and of better homes: functions that do nothing, whose clauses hold of all items, homes and
 //! machines.
 
-ghost use Rattle.std.specs.List.{sum_by, range_with_len};
 ghost use Rattle.std.specs.Prelude.{◌≡◌, ◌<◌, ◌≤◌, List as Items, ℕ, length, ◌≢◌, ◌+◌, ◌%◌, All, slice_index};
-ghost use Rattle.home_pick.specs.Better.{IsBetter, load_at};
-ghost use Rattle.home_pick.specs.Crossings.{crossings};
+ghost use Rattle.std.specs.List.{sum_by, range_with_len};
+ghost use Rattle.home_pick.specs.{Better.IsBetter, Better.load_at, Crossings.crossings};
 ghost use Rattle.limits.specs.declared.TheConstants.{MAX_NODES};
-ghost use Rattle.machine_text.specs.Machines.{IsValid as IsValidMachine};
-ghost use Rattle.machine_text.specs.declared.machine.Limited.TheVariants.{Nodes};
-ghost use Rattle.machine_text.specs.declared.machine.Machine.{Machine};
-ghost use Rattle.net_defs.specs.Valid.{IsValid};
-ghost use Rattle.net_defs.specs.declared.netlist.Netlist.{Netlist};
-ghost use Rattle.net_defs.specs.declared.timing.Timing.{Timing};
-ghost use Rattle.node_defs.specs.Order.{AreItems};
-ghost use Rattle.node_defs.specs.WellFormed.{IsWellFormed};
-ghost use Rattle.node_defs.specs.declared.items.NodeNet.{NodeNet};
-ghost use Rattle.plan_defs.specs.Homes.{AreHomes};
+ghost use Rattle.machine_text.specs.{Machines.IsValid as IsValidMachine, declared.machine.Limited.TheVariants.Nodes, declared.machine.Machine.Machine};
+ghost use Rattle.net_defs.specs.{Valid.IsValid, declared.netlist.Netlist.Netlist, declared.timing.Timing.Timing};
+ghost use Rattle.node_defs.specs.{Order.AreItems, WellFormed.IsWellFormed, declared.items.NodeNet.NodeNet};
 ghost use Rattle.plan_defs.specs.Picks.{ArePicked, node_limit, node_count, AreHoused, FindsNoPort, HasTooManyNodes};
-ghost use Rattle.plan_defs.specs.Readers.{IsReaderList};
-ghost use Rattle.plan_defs.specs.declared.plan.Homes.{Homes};
+ghost use Rattle.plan_defs.specs.{Homes.AreHomes, Readers.IsReaderList, declared.plan.Homes.Homes};
 
 /// A law: memories have one list of ports. It does nothing.
 pub fn one_housing()

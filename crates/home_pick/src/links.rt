@@ -4,10 +4,9 @@ ghost use Rattle.std.specs.Prelude.{◌≡◌, ℕ, ◌+◌, ◌<◌, ◌≤◌,
 ghost use Rattle.std.specs.List.{sum_by, range_with_len};
 ghost use Rattle.node_defs.specs.WellFormed.{IsMemoryOf, IsWellFormed};
 ghost use Rattle.plan_defs.specs.Homes.{AreHomes, block_home, home_of};
-ghost use Rattle.home_pick.specs.Bags.{where_at};
-ghost use Rattle.home_pick.specs.code.Bags.{times, IsBag};
 ghost use Rattle.home_pick.specs.Crossings.{block_uses, feed_uses, item_uses, memory_uses, uses_by};
 ghost use Rattle.home_pick.specs.code.Uses.{bag_at, AreBags, AreTakes, AreUses, Gives, IsTaken};
+ghost use Rattle.home_pick.specs.{Bags.where_at, code.Bags.times, code.Bags.IsBag};
 
 use crate::bags::{Entry, bag_of, give};
 use crate::uses::{empty_bags, give_all, give_bag, places_of};

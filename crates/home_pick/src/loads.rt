@@ -3,10 +3,8 @@
 ghost use Rattle.std.specs.Prelude.{◌≡◌, ◌≤◌, ◌<◌, ℕ, IfOk, length};
 ghost use Rattle.limits.specs.declared.TheConstants.{MAX_LOGIC};
 ghost use Rattle.node_defs.specs.WellFormed.{IsWellFormed};
-ghost use Rattle.plan_defs.specs.Homes.{AreHomes};
-ghost use Rattle.plan_defs.specs.Picks.{node_count as nodes_of};
-ghost use Rattle.home_pick.specs.Better.{bound_of as bound_from, fair_share, most_load};
-ghost use Rattle.home_pick.specs.code.Work.{AreLoads, AreMost};
+ghost use Rattle.plan_defs.specs.{Homes.AreHomes, Picks.node_count as nodes_of};
+ghost use Rattle.home_pick.specs.{Better.bound_of as bound_from, Better.fair_share, Better.most_load, code.Work.AreLoads, code.Work.AreMost};
 
 use machine_text::{Limited, Machine};
 use node_defs::NodeNet;

@@ -2,12 +2,8 @@
 
 ghost use Rattle.std.specs.Prelude.{◌≡◌, ◌≢◌, ◌+◌, ◌≤◌, ◌<◌, ℕ, OnOk, length, slice_index};
 ghost use Rattle.node_defs.specs.WellFormed.{IsWellFormed};
-ghost use Rattle.home_pick.specs.Bags.{where_at};
 ghost use Rattle.home_pick.specs.Better.{best_port, bound_of, pass, settled, IsBetter};
-ghost use Rattle.home_pick.specs.Crossings.{moved};
-ghost use Rattle.home_pick.specs.code.Uses.{AreTakes};
-ghost use Rattle.home_pick.specs.code.Work.{AreMost};
-ghost use Rattle.home_pick.specs.code.Working.{IsLifted, IsWork};
+ghost use Rattle.home_pick.specs.{Bags.where_at, Crossings.moved, code.Uses.AreTakes, code.Work.AreMost, code.Working.IsLifted, code.Working.IsWork};
 
 use crate::bags::{Entry, bag_of};
 use crate::loads::node_count;

@@ -1,11 +1,10 @@
 //! The homes of items, or why there are none.
 
 ghost use Rattle.std.specs.Prelude.{◌≡◌, ◌+◌, ◌-◌, ◌<◌, ◌≤◌, ◌++◌, ◌∷◌, [], IfOk, IfErr, OnOk, length, Some, slice_get};
-ghost use Rattle.machine_text.specs.Machines.{IsValid};
-ghost use Rattle.machine_text.specs.declared.machine.Limited.TheVariants.{Nodes as NodesOf};
+ghost use Rattle.machine_text.specs.{Machines.IsValid, declared.machine.Limited.TheVariants.Nodes as NodesOf};
 ghost use Rattle.node_defs.specs.WellFormed.{IsWellFormed};
-ghost use Rattle.plan_defs.specs.Homes.{AreHomes};
 ghost use Rattle.plan_defs.specs.Picks.{AreHoused, ArePicked, HasPickedHome, node_count, node_room};
+ghost use Rattle.plan_defs.specs.Homes.{AreHomes};
 ghost use Rattle.home_pick.specs.code.Rooms.{AreFilled, AreItemPorts, AreTurned, homes_at, limits_of as limits_at};
 ghost use Rattle.home_pick.specs.Refusals.{IsRight};
 

@@ -1,17 +1,13 @@
 //! What pulls a node to each logic port.
 
 ghost use Rattle.std.specs.Prelude.{◌≡◌, ◌≢◌, ◌+◌, ◌++◌, ◌∷◌, ◌≤◌, ◌<◌, ◌==◌, if◌then◌else◌, [], ℕ, OnOk, length, slice_index, slice_set};
+ghost use Rattle.std.specs.List.{filter, range_with_len};
 ghost use Rattle.node_defs.specs.WellFormed.{IsWellFormed};
 ghost use Rattle.plan_defs.specs.Homes.{AreHomes, home_of};
-ghost use Rattle.home_pick.specs.Bags.{flag};
-ghost use Rattle.home_pick.specs.code.Bags.{times, IsBag};
-ghost use Rattle.home_pick.specs.Crossings.{uses_by};
 ghost use Rattle.home_pick.specs.code.Moves.{pull_at, pull_by, AreLowered, AreUsesWithout, first_most};
-ghost use Rattle.home_pick.specs.code.Spread.{AreSpreadWithout};
-ghost use Rattle.home_pick.specs.code.Uses.{AreTakes};
 ghost use Rattle.home_pick.specs.code.Work.{hit, beside, room_in, Adds, AddsEvenly};
+ghost use Rattle.home_pick.specs.{Bags.flag, code.Bags.times, code.Bags.IsBag, Crossings.uses_by, code.Spread.AreSpreadWithout, code.Uses.AreTakes};
 ghost use Rattle.home_pick.specs.code.Touched.{is_better, AreTouched};
-ghost use Rattle.std.specs.List.{filter, range_with_len};
 
 use crate::bags::{Entry, bag_of};
 use node_defs::NodeNet;

@@ -1,9 +1,7 @@
 //! Items that are used at each logic port: what takes one of them is pulled equally to all ports.
 
 ghost use Rattle.std.specs.Prelude.{◌≡◌, ◌≢◌, ◌<◌, ℕ, IsTrue, length};
-ghost use Rattle.home_pick.specs.code.Bags.{counted, times, IsBag};
-ghost use Rattle.home_pick.specs.code.Spread.{AreSpread, Unmarks};
-ghost use Rattle.home_pick.specs.code.Uses.{bag_at, AreBags, AreUses};
+ghost use Rattle.home_pick.specs.code.{Bags.counted, Bags.times, Bags.IsBag, Spread.AreSpread, Spread.Unmarks, Uses.bag_at, Uses.AreBags, Uses.AreUses};
 
 use crate::bags::{Entry, bag_of, times_of};
 use node_defs::NodeNet;

@@ -3,10 +3,8 @@
 ghost use Rattle.std.specs.Prelude.{◌≡◌, ◌+◌, ◌-◌, ◌<◌, ◌≤◌, ◌++◌, ◌∷◌, [], ℕ, IfOk, length};
 ghost use Rattle.std.specs.List.{sum};
 ghost use Rattle.limits.specs.declared.TheConstants.{MAX_LOGIC};
-ghost use Rattle.machine_text.specs.Machines.{IsValid};
-ghost use Rattle.machine_text.specs.declared.machine.Limited.TheVariants.{Nodes};
-ghost use Rattle.plan_defs.specs.Lists.{IsLeastFree};
-ghost use Rattle.plan_defs.specs.Picks.{IsInTurn, node_room};
+ghost use Rattle.machine_text.specs.{Machines.IsValid, declared.machine.Limited.TheVariants.Nodes};
+ghost use Rattle.plan_defs.specs.{Lists.IsLeastFree, Picks.IsInTurn, Picks.node_room};
 ghost use Rattle.home_pick.specs.code.Rooms.{AreTurned, IsSpent, limits_of};
 
 use machine_text::Machine;

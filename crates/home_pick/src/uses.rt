@@ -1,9 +1,7 @@
 //! Bags in a list that get and lose numbers.
 
 ghost use Rattle.std.specs.Prelude.{◌≡◌, ◌≢◌, ℕ, ◌<◌, ◌≤◌, IfOk, OnOk, [], length, slice_index};
-ghost use Rattle.home_pick.specs.Bags.{where_at};
-ghost use Rattle.home_pick.specs.code.Bags.{counted, times, IsBag};
-ghost use Rattle.home_pick.specs.Crossings.{times_in};
+ghost use Rattle.home_pick.specs.{Bags.where_at, code.Bags.counted, code.Bags.times, code.Bags.IsBag, Crossings.times_in};
 ghost use Rattle.home_pick.specs.code.Uses.{bag_at, AreBags, Gives};
 
 use crate::bags::{Entry, bag_of, give, take};

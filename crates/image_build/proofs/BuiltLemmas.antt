@@ -1,40 +1,23 @@
 -- An image that is laid out is built: it is well-formed and matches its items, so that it gives their values.
 use Rattle.std.proofs.Common.{◌≡◌, ◌↔◌, ◌∙◌, ℕ, ◌+◌, ◌*◌, ◌<◌, List, length, Some, slice_get, refl, sym, ap, subst, arith}
-use Rattle.std.specs.List.Sorted.{IsStrictlyIncreasing}
 use Rattle.std.proofs.lemmas.List.{length-map}
+use Rattle.std.specs.List.Sorted.{IsStrictlyIncreasing}
 use Rattle.list_laws.proofs.Members.{member_at, mapped_at}
-use Rattle.net_defs.specs.declared.timing.Timing.{Timing}
-use Rattle.net_defs.specs.declared.stimulus.Stimulus.{Stimulus}
-use Rattle.net_defs.specs.Steps.{State}
-use Rattle.net_defs.specs.Valid.{IsValidTiming}
-use Rattle.node_defs.specs.declared.items.Item.{Item}
-use Rattle.node_defs.specs.declared.items.NodeNet.{NodeNet}
-use Rattle.node_defs.specs.Values.{AreItemValues}
-use Rattle.image_defs.specs.declared.image.Work.{Work}
-use Rattle.image_defs.specs.declared.image.Work.TheVariants.{Logic, Array, Host}
-use Rattle.image_defs.specs.declared.image.PortImage.{PortImage}
-use Rattle.image_defs.specs.declared.image.Image.{Image}
-use Rattle.image_defs.specs.Places as places
+use Rattle.net_defs.specs.{declared.timing.Timing.Timing, declared.stimulus.Stimulus.Stimulus, Steps.State, Valid.IsValidTiming}
+use Rattle.node_defs.specs.{declared.items.Item.Item, declared.items.NodeNet.NodeNet, Values.AreItemValues}
 use Rattle.image_defs.specs.Places.{Each, IsPort, item_slots, in_slots}
-use Rattle.image_defs.specs.WellFormed.{IsHost, IsPortImage, IsWellFormed}
 use Rattle.image_defs.specs.Matches.{claims_of, IsClaim, ClaimsIn, ImplementsClaim, PrintsItems, Matches}
-use Rattle.image_defs.specs.Shows.{ShowsItems}
+use Rattle.image_defs.specs.declared.image.{Work.Work, Work.TheVariants.Logic, Work.TheVariants.Array, Work.TheVariants.Host, PortImage.PortImage, Image.Image}
+use Rattle.image_defs.specs.{WellFormed.IsHost, WellFormed.IsPortImage, WellFormed.IsWellFormed, Shows.ShowsItems}
+use Rattle.image_defs.specs.Places as places
 use Rattle.image_defs.proofs.lemmas.MatchLemmas.{shows_items}
-use Rattle.plan_defs.specs.declared.plan.Homes.{Homes}
-use Rattle.plan_defs.specs.declared.plan.Plan.{Plan}
-use Rattle.plan_defs.specs.declared.switch.Switch.{Switch}
-use Rattle.plan_defs.specs.Homes.{home_of, host_of, ports_of}
-use Rattle.plan_defs.specs.Slots.{slot_of}
-use Rattle.plan_defs.specs.Switches.{IsSwitch}
+use Rattle.plan_defs.specs.{declared.plan.Homes.Homes, declared.plan.Plan.Plan, declared.switch.Switch.Switch, Homes.home_of, Homes.host_of, Homes.ports_of}
+use Rattle.plan_defs.specs.{Slots.slot_of, Switches.IsSwitch}
 use Rattle.plan_defs.proofs.lemmas.PortLemmas.{home_port}
-use Rattle.image_build.specs.Plans.{IsPlanned}
-use Rattle.image_build.specs.Built.{IsBuilt, GivesItems}
-use Rattle.image_build.specs.code.Layouts.{IsWorkFor, IsLaidOut}
+use Rattle.image_build.specs.{Plans.IsPlanned, Built.IsBuilt, Built.GivesItems, code.Layouts.IsWorkFor, code.Layouts.IsLaidOut}
 use Rattle.image_build.proofs.ClaimLemmas.{claimed_in, port_low, claim_at, placed}
-use Rattle.image_build.proofs.SourceLemmas.{ins_rise}
-use Rattle.image_build.proofs.WorkLemmas.{port_done, port_prints}
-use Rattle.image_build.proofs.PlannedLemmas.{slot_low}
 use Rattle.image_build.proofs.LinkLemmas.{outs_rise, sends_right, receives_right, in_item}
+use Rattle.image_build.proofs.{SourceLemmas.ins_rise, WorkLemmas.port_done, WorkLemmas.port_prints, PlannedLemmas.slot_low}
 
 -- ---- the last port
 

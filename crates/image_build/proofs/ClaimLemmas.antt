@@ -1,32 +1,20 @@
 -- Where the items of a plan stand in an image that is laid out: each in its slot at its home.
 use Rattle.std.proofs.Common.{◌≡◌, ◌∙◌, ℕ, ◌<◌, List, length, map, Some, slice_get, refl, sym, ap, subst, arith}
 use Rattle.std.proofs.lemmas.Option.{slice_get_within}
-use Rattle.list_laws.proofs.Members.{member_at}
-use Rattle.list_laws.proofs.Options.{one_some}
+use Rattle.list_laws.proofs.{Members.member_at, Options.one_some}
 use Rattle.net_defs.specs.declared.timing.Timing.{Timing}
 use Rattle.func_table.specs.declared.table.Table.{Table}
-use Rattle.node_defs.specs.declared.items.Item.{Item}
 use Rattle.node_defs.specs.declared.items.Item.TheVariants.{Input, BlockBit, Node, Latch}
-use Rattle.node_defs.specs.declared.items.NodeNet.{NodeNet}
-use Rattle.image_defs.specs.declared.image.Task.{Task}
-use Rattle.image_defs.specs.declared.image.OutBit.{OutBit}
-use Rattle.image_defs.specs.declared.image.InColumn.{InColumn}
-use Rattle.image_defs.specs.declared.image.Work.{Work}
-use Rattle.image_defs.specs.declared.image.Work.TheVariants.{Logic, Array, Host}
-use Rattle.image_defs.specs.declared.image.PortImage.{PortImage}
-use Rattle.image_defs.specs.declared.image.Image.{Image}
+use Rattle.node_defs.specs.declared.items.{Item.Item, NodeNet.NodeNet}
 use Rattle.image_defs.specs.Places.{Stands, IsPort, item_slots, task_slot}
+use Rattle.image_defs.specs.declared.image.{Task.Task, OutBit.OutBit, InColumn.InColumn, Work.Work}
+use Rattle.image_defs.specs.declared.image.{Work.TheVariants.Logic, Work.TheVariants.Array, Work.TheVariants.Host, PortImage.PortImage, Image.Image}
 use Rattle.image_defs.specs.Matches.{claims_of, IsClaim, ClaimsIn}
 use Rattle.image_defs.proofs.lemmas.MatchLemmas.{maps_same}
-use Rattle.plan_defs.specs.declared.plan.Homes.{Homes}
-use Rattle.plan_defs.specs.declared.plan.Plan.{Plan}
-use Rattle.plan_defs.specs.declared.switch.Switch.{Switch}
-use Rattle.plan_defs.specs.Homes.{home_of, ports_of}
-use Rattle.plan_defs.specs.Slots.{slot_of}
+use Rattle.plan_defs.specs.{declared.plan.Homes.Homes, declared.plan.Plan.Plan, declared.switch.Switch.Switch, Homes.home_of, Homes.ports_of, Slots.slot_of}
 use Rattle.plan_defs.proofs.lemmas.PortLemmas.{home_port}
-use Rattle.image_build.specs.PortItems.{IsAt, ArePortItems}
-use Rattle.image_build.specs.Plans.{IsPlanned}
 use Rattle.image_build.specs.code.Layouts.{AreMadeFor, IsTaskFor, IsBitFor, IsInputFor, IsWorkFor, IsLaidOut}
+use Rattle.image_build.specs.{PortItems.IsAt, PortItems.ArePortItems, Plans.IsPlanned}
 use Rattle.image_build.proofs.MemberLemmas.{made_there}
 
 -- ---- the slots of what a port does

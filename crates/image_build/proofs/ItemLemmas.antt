@@ -1,24 +1,16 @@
 -- The items of the ports, one after another in slot order.
 use Rattle.std.proofs.Common.{◌≡◌, ◌≢◌, ◌⊎◌, inl, inr, ℕ, ◌+◌, ◌<◌, List, [], ◌∷◌, ◌++◌, length, take, get_or, Some, slice_get, slice_set, replicate, sym, ap, ◌∙◌, subst, refl, arith}
-use Rattle.std.specs.List.{Contains}
-use Rattle.std.proofs.lemmas.Bool.{cases_eq, cases_lt}
 use Rattle.std.proofs.lemmas.List.{take_all, length-map, length-replicate, length-set, get_or-replicate, get_or_past, get_or-set_same, get_or-set_other}
+use Rattle.std.proofs.lemmas.Bool.{cases_eq, cases_lt}
+use Rattle.std.specs.List.{Contains}
 use Rattle.node_defs.specs.declared.items.NodeNet.{NodeNet}
-use Rattle.plan_defs.specs.declared.plan.Homes.{Homes}
-use Rattle.plan_defs.specs.declared.plan.Plan.{Plan}
-use Rattle.plan_defs.specs.Homes.{home_of, ports_of}
-use Rattle.plan_defs.specs.Slots.{slot_of}
-use Rattle.plan_defs.proofs.lemmas.PlanLemmas.{one_at_home}
-use Rattle.plan_defs.proofs.lemmas.PortLemmas.{home_port}
-use Rattle.switch_set.specs.declared.order.Placed.{Placed}
-use Rattle.switch_set.specs.Links.{IsSlotList}
-use Rattle.switch_set.specs.Order.{items_of, IsSlotOrder}
-use Rattle.switch_set.proofs.lemmas.ListLemmas.{listed_none, listed_same, listed_more}
+use Rattle.plan_defs.specs.{declared.plan.Homes.Homes, declared.plan.Plan.Plan, Homes.home_of, Homes.ports_of, Slots.slot_of}
+use Rattle.plan_defs.proofs.lemmas.{PlanLemmas.one_at_home, PortLemmas.home_port}
+use Rattle.switch_set.specs.{declared.order.Placed.Placed, Links.IsSlotList, Order.items_of, Order.IsSlotOrder}
 use Rattle.switch_set.proofs.SwitchLemmas.{item_low, here_is, lower, kept, added, old_or}
+use Rattle.switch_set.proofs.lemmas.ListLemmas.{listed_none, listed_same, listed_more}
 use Rattle.image_defs.specs.Matches.{claims_of}
-use Rattle.image_build.specs.PortItems.{IsAt, ArePlanClaims}
-use Rattle.image_build.specs.Plans.{IsPlanned}
-use Rattle.image_build.specs.code.Plans.{AreItemsAmong}
+use Rattle.image_build.specs.{PortItems.IsAt, PortItems.ArePlanClaims, Plans.IsPlanned, code.Plans.AreItemsAmong}
 
 -- empty lists
 pub empty_at : (count p : ℕ) (lists : List (List ℕ)) → lists ≡ replicate count [] → claims_of lists p ≡ []

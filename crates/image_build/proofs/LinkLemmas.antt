@@ -4,27 +4,15 @@ use Rattle.std.specs.List.Sorted.{IsStrictlyIncreasing}
 use Rattle.list_laws.proofs.Members.{mapped_at, listed}
 use Rattle.net_defs.specs.declared.timing.Timing.{Timing}
 use Rattle.node_defs.specs.declared.items.NodeNet.{NodeNet}
-use Rattle.image_defs.specs.declared.image.LinkIn.{LinkIn}
-use Rattle.image_defs.specs.declared.image.PortImage.{PortImage}
-use Rattle.image_defs.specs.declared.image.Image.{Image}
 use Rattle.image_defs.specs.Places.{Each, Stands, IsPort, in_slots, out_slots}
+use Rattle.image_defs.specs.declared.image.{LinkIn.LinkIn, PortImage.PortImage, Image.Image}
 use Rattle.image_defs.specs.WellFormed.{ReceivesFrom, IsLinkOut, IsLinkIn}
-use Rattle.plan_defs.specs.declared.plan.Homes.{Homes}
-use Rattle.plan_defs.specs.declared.plan.Plan.{Plan}
-use Rattle.plan_defs.specs.declared.switch.Sending.{Sending}
-use Rattle.plan_defs.specs.declared.switch.Receipt.{Receipt}
-use Rattle.plan_defs.specs.declared.switch.PortLinks.{PortLinks}
-use Rattle.plan_defs.specs.declared.switch.Switch.{Switch}
-use Rattle.plan_defs.specs.Homes.{home_of, ports_of}
-use Rattle.plan_defs.specs.Readers.{IsReader}
-use Rattle.plan_defs.specs.Slots.{slot_of}
 use Rattle.plan_defs.specs.Switches.{IsSendingOf, IsSent, IsReceiptOf, IsSwitch}
+use Rattle.plan_defs.specs.declared.{plan.Homes.Homes, plan.Plan.Plan, switch.Sending.Sending, switch.Receipt.Receipt, switch.PortLinks.PortLinks}
+use Rattle.plan_defs.specs.{declared.switch.Switch.Switch, Homes.home_of, Homes.ports_of, Readers.IsReader, Slots.slot_of}
 use Rattle.plan_defs.proofs.lemmas.PortLemmas.{home_port, reader_port}
-use Rattle.image_build.specs.Plans.{IsPlanned}
-use Rattle.image_build.specs.Built.{link_out, link_in}
-use Rattle.image_build.specs.code.Layouts.{IsLaidOut}
-use Rattle.image_build.proofs.MemberLemmas.{stands, made_there}
-use Rattle.image_build.proofs.ClaimLemmas.{port_low, port_at, item_there}
+use Rattle.image_build.specs.{Plans.IsPlanned, Built.link_out, Built.link_in, code.Layouts.IsLaidOut}
+use Rattle.image_build.proofs.{MemberLemmas.stands, MemberLemmas.made_there, ClaimLemmas.port_low, ClaimLemmas.port_at, ClaimLemmas.item_there}
 use Rattle.image_build.proofs.SourceLemmas.{links_at, received}
 
 -- the slots in which a port sends

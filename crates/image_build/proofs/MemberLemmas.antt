@@ -1,8 +1,7 @@
 -- Members of lists: where they stand, and what is made of them.
 use Rattle.std.proofs.Common.{◌≡◌, ◌∙◌, ℕ, List, map, Some, slice_get, ap}
-use Rattle.std.specs.List.{Contains}
-use Rattle.std.specs.Option.{option_map}
 use Rattle.std.proofs.lemmas.Option.{slice_get-map, slice_get-get_or}
+use Rattle.std.specs.{List.Contains, Option.option_map}
 use Rattle.image_defs.specs.Places.{Stands}
 
 pub stands : (xs : List ℕ) (x : ℕ) → Contains xs x → Stands xs x

@@ -1,20 +1,11 @@
 -- The memories of each port exist, and the output bits of items by them.
 use Rattle.std.proofs.Common.{◌≡◌, ℕ, zero, suc, ◌<◌, ◌≤◌, List, [], ◌∷◌, ◌++◌, length, replicate, refl, arith, add-one}
 use Rattle.std.specs.Prelude.{Some, slice_get, slice_index, slice_set}
-use Rattle.node_defs.specs.declared.items.Item.{Item}
 use Rattle.node_defs.specs.declared.items.Item.TheVariants.{Input, BlockBit, Node, Latch}
-use Rattle.node_defs.specs.declared.items.NodeNet.{NodeNet}
-use Rattle.image_defs.specs.declared.image.OutBit.{OutBit}
-use Rattle.image_defs.specs.Matches.{claims_of}
-use Rattle.plan_defs.specs.declared.plan.Homes.{Homes}
-use Rattle.plan_defs.specs.declared.plan.Plan.{Plan}
-use Rattle.plan_defs.specs.Homes.{block_home, host_of, ports_of}
-use Rattle.plan_defs.specs.Slots.{slot_of}
-use Rattle.image_build.specs.declared.memories.Memories.{Memories}
-use Rattle.image_build.specs.PortItems.{IsAt}
-use Rattle.image_build.specs.Plans.{IsPlanned}
-use Rattle.image_build.specs.Built.{ArePortMemories}
-use Rattle.image_build.specs.code.Layouts.{IsBitFor}
+use Rattle.node_defs.specs.declared.items.{Item.Item, NodeNet.NodeNet}
+use Rattle.image_defs.specs.{declared.image.OutBit.OutBit, Matches.claims_of}
+use Rattle.plan_defs.specs.{declared.plan.Homes.Homes, declared.plan.Plan.Plan, Homes.block_home, Homes.host_of, Homes.ports_of, Slots.slot_of}
+use Rattle.image_build.specs.{declared.memories.Memories.Memories, PortItems.IsAt, Plans.IsPlanned, Built.ArePortMemories, code.Layouts.IsBitFor}
 use Rattle.image_build.specs.code.Plans.{IsBitItem, AreMemories, AreFirstMemories}
 use Rattle.image_build.proofs.MemoryLemmas.{memories_none, memories_more, memories_all}
 use Rattle.image_build.proofs.PlannedLemmas.{bit_at_array, bit_right}

@@ -1,23 +1,15 @@
 -- The memories of the ports, one after another.
 use Rattle.std.proofs.Common.{◌≡◌, ◌≢◌, inl, inr, ℕ, ◌+◌, ◌<◌, List, [], ◌∷◌, ◌++◌, length, take, get_or, Some, slice_get, slice_set, replicate, sym, ap, ◌∙◌, subst, refl, arith}
-use Rattle.std.proofs.lemmas.Bool.{cases_eq, cases_lt}
 use Rattle.std.proofs.lemmas.List.{take_more, length_push, length-set, length-replicate}
-use Rattle.std.proofs.lemmas.Option.{slice_get_within, get_or_from_slice_get}
+use Rattle.std.proofs.lemmas.{Bool.cases_eq, Bool.cases_lt, Option.slice_get_within, Option.get_or_from_slice_get}
 use Rattle.list_laws.proofs.Places.{at_front, seam_at}
-use Rattle.node_defs.specs.declared.items.NodeBlock.{NodeBlock}
-use Rattle.node_defs.specs.declared.items.NodeNet.{NodeNet}
-use Rattle.image_defs.specs.declared.image.BlockWork.{BlockWork}
-use Rattle.plan_defs.specs.declared.plan.Homes.{Homes}
-use Rattle.plan_defs.specs.Homes.{block_home, ports_of}
-use Rattle.plan_defs.specs.code.Lists.{ListsBelow}
+use Rattle.node_defs.specs.declared.items.{NodeBlock.NodeBlock, NodeNet.NodeNet}
+use Rattle.image_defs.specs.{declared.image.BlockWork.BlockWork, Matches.claims_of}
+use Rattle.plan_defs.specs.{declared.plan.Homes.Homes, Homes.block_home, Homes.ports_of, code.Lists.ListsBelow}
 use Rattle.plan_defs.proofs.ListLemmas.{listed_none, listed_more, listed_not}
-use Rattle.image_defs.specs.Matches.{claims_of}
-use Rattle.image_build.specs.declared.memories.Memories.{Memories}
-use Rattle.image_build.specs.Built.{ArePortMemories}
-use Rattle.image_build.specs.code.Layouts.{block_for, AreBlocks}
+use Rattle.image_build.specs.{declared.memories.Memories.Memories, Built.ArePortMemories, code.Layouts.block_for, code.Layouts.AreBlocks}
 use Rattle.image_build.specs.code.Plans.{AreMemories, AreFirstMemories}
-use Rattle.image_build.proofs.GrowLemmas.{last_place}
-use Rattle.image_build.proofs.ItemLemmas.{empty_at, grown_at, kept_at}
+use Rattle.image_build.proofs.{GrowLemmas.last_place, ItemLemmas.empty_at, ItemLemmas.grown_at, ItemLemmas.kept_at}
 
 module _ (nodes : NodeNet) (homes : Homes) where
   pub memories_none : (memories : Memories) → memories.lists ≡ replicate (ports_of homes) [] → memories.places ≡ [] → AreFirstMemories nodes homes 0 memories

@@ -1,50 +1,28 @@
 -- Of the same items at the same homes in the same slots one image is built, whichever numbers their tables have.
 use Rattle.std.proofs.Common.{◌≡◌, ◌⊎◌, ◌∙◌, inl, inr, ℕ, ◌+◌, ◌<◌, ◌≤◌, List, length, map, Some, slice_get, refl, sym, ap, subst, arith, true, false}
-use Rattle.std.proofs.lemmas.List.{length-map}
-use Rattle.std.proofs.lemmas.Option.{slice_get_within}
-use Rattle.list_laws.proofs.Members.{member_at, mapped_at, listed}
-use Rattle.list_laws.proofs.Options.{one_some}
+use Rattle.std.proofs.lemmas.{List.length-map, Option.slice_get_within}
+use Rattle.list_laws.proofs.{Members.member_at, Members.mapped_at, Members.listed, Options.one_some}
 use Rattle.net_defs.specs.declared.timing.Timing.{Timing}
-use Rattle.func_table.specs.declared.table.Table.{Table}
-use Rattle.func_table.specs.Entries.{AreAlike, looked_up, entry_for}
+use Rattle.func_table.specs.{declared.table.Table.Table, Entries.AreAlike, Entries.looked_up, Entries.entry_for}
 use Rattle.func_table.proofs.EntryLemmas.{same_entries}
 use Rattle.logic_four.specs.declared.V4.{V4}
-use Rattle.node_defs.specs.declared.items.Tag.TheVariants.{This, Last}
-use Rattle.node_defs.specs.declared.items.Feed.TheVariants.{From}
-use Rattle.node_defs.specs.declared.items.Feeds.{Feeds}
-use Rattle.node_defs.specs.declared.items.Item.{Item}
+use Rattle.node_defs.specs.declared.items.{Tag.TheVariants.This, Tag.TheVariants.Last, Feed.TheVariants.From, Feeds.Feeds, Item.Item, NodeBlock.NodeBlock}
+use Rattle.node_defs.specs.{declared.items.NodeNet.NodeNet, Same.AreSameItem, Same.AreSameItems, Same.IsSameTable, WellFormed.column_count}
 use Rattle.node_defs.specs.declared.items.Item.TheVariants as item
-use Rattle.node_defs.specs.declared.items.NodeBlock.{NodeBlock}
-use Rattle.node_defs.specs.declared.items.NodeNet.{NodeNet}
-use Rattle.node_defs.specs.Same.{AreSameItem, AreSameItems, IsSameTable}
-use Rattle.node_defs.specs.WellFormed.{column_count}
-use Rattle.image_defs.specs.declared.image.Source.{Source}
-use Rattle.image_defs.specs.declared.image.Task.{Task}
-use Rattle.image_defs.specs.declared.image.Task.TheVariants.{Eval, Hold}
-use Rattle.image_defs.specs.declared.image.BlockWork.{BlockWork}
-use Rattle.image_defs.specs.declared.image.OutBit.{OutBit}
-use Rattle.image_defs.specs.declared.image.InColumn.{InColumn}
-use Rattle.image_defs.specs.declared.image.Work.{Work}
-use Rattle.image_defs.specs.declared.image.Work.TheVariants.{Logic, Array, Host}
-use Rattle.image_defs.specs.declared.image.LinkIn.{LinkIn}
-use Rattle.image_defs.specs.declared.image.PortImage.{PortImage}
-use Rattle.image_defs.specs.declared.image.Image.{Image}
-use Rattle.image_defs.specs.Places as places
 use Rattle.image_defs.specs.Places.{Each, IsPort, item_slots, printed_of, task_slot}
-use Rattle.image_defs.specs.WellFormed.{IsWork}
-use Rattle.image_defs.proofs.lemmas.PlaceLemmas.{rises, place_found}
 use Rattle.image_defs.specs.Matches.{claims_of, IsClaim, Carries, TaskImplements, Implements, BitImplements, InputImplements, Matches}
-use Rattle.plan_defs.specs.declared.plan.Homes.{Homes}
-use Rattle.plan_defs.specs.Homes.{block_home, host_of, ports_of}
-use Rattle.plan_defs.specs.Lists.{Lists}
-use Rattle.plan_defs.specs.Slots.{slot_of}
+use Rattle.image_defs.specs.declared.image.{Source.Source, Task.Task, Task.TheVariants.Eval, Task.TheVariants.Hold, BlockWork.BlockWork, OutBit.OutBit}
+use Rattle.image_defs.specs.declared.image.{InColumn.InColumn, Work.Work, Work.TheVariants.Logic, Work.TheVariants.Array, Work.TheVariants.Host, LinkIn.LinkIn}
+use Rattle.image_defs.specs.{declared.image.PortImage.PortImage, declared.image.Image.Image, WellFormed.IsWork}
+use Rattle.image_defs.specs.Places as places
+use Rattle.image_defs.proofs.lemmas.PlaceLemmas.{rises, place_found}
+use Rattle.plan_defs.specs.{declared.plan.Homes.Homes, Homes.block_home, Homes.host_of, Homes.ports_of, Lists.Lists, Slots.slot_of}
 use Rattle.switch_set.proofs.lemmas.SameLemmas.{one_lists}
 use Rattle.image_build.specs.Built.{Evaluates, AreInOrderOfUse, AreBlocksOf, IsOrdered, ArePortMemories}
 use Rattle.image_build.specs.code.Layouts.{source_of, feed_source, block_for}
-use Rattle.image_build.proofs.MemberLemmas.{made_there}
 use Rattle.image_build.proofs.OrderLemmas.{AreTwins, ArePaired, same_numbers, same_tables}
 use Rattle.image_build.proofs.PlacedLemmas.{same_by, IsPlacedBy, IsTaskLike, carried_source, memory_is, task_like}
-use Rattle.image_build.proofs.WorkLemmas.{eval_for}
+use Rattle.image_build.proofs.{MemberLemmas.made_there, WorkLemmas.eval_for}
 
 -- an image that is built of items at their homes in these slots, by these claims
 pub record IsBuiltBy (nodes : NodeNet) (homes : Homes) (slots : List ℕ) (claims : List (List ℕ)) (timing : Timing) (image : Image) : Type 0 where

@@ -1,12 +1,9 @@
 -- Tables in the order of their first use, and tasks that use them: where the tasks of two lists use tables with the same
 -- entries, the numbers of the tables are the same.
 use Rattle.std.proofs.Common.{◌≡◌, ◌∙◌, inl, inr, ℕ, zero, suc, ◌+◌, ◌<◌, ◌≤◌, List, length, get_or, Some, slice_get, refl, sym, ap, subst, arith}
-use Rattle.std.proofs.lemmas.Bool.{cases_lt}
-use Rattle.std.proofs.lemmas.Option.{slice_get_within, get_or_from_slice_get}
+use Rattle.std.proofs.lemmas.{Bool.cases_lt, Option.slice_get_within, Option.get_or_from_slice_get}
 use Rattle.list_laws.proofs.Options.{one_some}
-use Rattle.func_table.specs.declared.table.Table.{Table}
-use Rattle.func_table.specs.Entries.{AreAlike}
-use Rattle.func_table.specs.Shelf.{AreDifferent}
+use Rattle.func_table.specs.{declared.table.Table.Table, Entries.AreAlike, Shelf.AreDifferent}
 use Rattle.image_defs.specs.declared.image.Task.{Task}
 use Rattle.image_build.specs.Built.{Evaluates, AreInOrderOfUse}
 use Rattle.image_build.proofs.PlacedLemmas.{same_by}

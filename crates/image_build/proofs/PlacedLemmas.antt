@@ -1,38 +1,21 @@
 -- What a port of a built image takes and does is told by the plan: each source, each memory and each task, but for the
 -- numbers of tables.
 use Rattle.std.proofs.Common.{◌≡◌, ◌≢◌, ◌∙◌, ℕ, zero, suc, ◌<◌, Bool, true, false, List, [], ◌∷◌, length, map, Some, slice_get, refl, sym, ap, subst, arith}
-use Rattle.std.proofs.lemmas.List.{length-map}
-use Rattle.std.proofs.lemmas.Option.{slice_get_within}
-use Rattle.list_laws.proofs.Members.{mapped_at}
-use Rattle.list_laws.proofs.Options.{one_some}
-use Rattle.func_table.specs.declared.table.Table.{Table}
-use Rattle.func_table.specs.Entries.{AreAlike}
-use Rattle.node_defs.specs.declared.items.Tag.TheVariants.{This, Last}
-use Rattle.node_defs.specs.declared.items.Feed.{Feed}
-use Rattle.node_defs.specs.declared.items.Feed.TheVariants.{From, Fixed}
-use Rattle.node_defs.specs.declared.items.Item.{Item}
+use Rattle.std.proofs.lemmas.{List.length-map, Option.slice_get_within}
+use Rattle.list_laws.proofs.{Members.mapped_at, Options.one_some}
+use Rattle.func_table.specs.{declared.table.Table.Table, Entries.AreAlike}
+use Rattle.node_defs.specs.declared.items.{Tag.TheVariants.This, Tag.TheVariants.Last, Feed.Feed, Feed.TheVariants.From, Feed.TheVariants.Fixed, Item.Item}
+use Rattle.node_defs.specs.declared.items.{NodeBlock.NodeBlock, NodeNet.NodeNet}
 use Rattle.node_defs.specs.declared.items.Item.TheVariants as item
-use Rattle.node_defs.specs.declared.items.NodeBlock.{NodeBlock}
-use Rattle.node_defs.specs.declared.items.NodeNet.{NodeNet}
-use Rattle.image_defs.specs.declared.image.Source.{Source}
-use Rattle.image_defs.specs.declared.image.Source.TheVariants.{Own, Got, Const}
-use Rattle.image_defs.specs.declared.image.Task.{Task}
-use Rattle.image_defs.specs.declared.image.Task.TheVariants.{Eval, Hold}
-use Rattle.image_defs.specs.declared.image.BlockWork.{BlockWork}
-use Rattle.image_defs.specs.declared.image.PortImage.{PortImage}
-use Rattle.image_defs.specs.declared.image.Image.{Image}
 use Rattle.image_defs.specs.Places.{Each, IsPort, item_slots, task_slot, sender_in}
 use Rattle.image_defs.specs.WellFormed.{IsThere, IsPast, IsTask, IsBlock, IsWellFormed}
-use Rattle.image_defs.proofs.lemmas.PlaceLemmas.{sender_found}
 use Rattle.image_defs.specs.Matches.{claims_of, ClaimsIn, Carries, CarryAll, MemoryImplements, TaskImplements, is_last}
-use Rattle.plan_defs.specs.declared.plan.Homes.{Homes}
-use Rattle.plan_defs.specs.Homes.{home_of, ports_of}
-use Rattle.plan_defs.specs.Slots.{slot_of}
-use Rattle.image_build.specs.PortItems.{IsAt, ArePlanClaims}
-use Rattle.image_build.specs.code.Layouts.{source_of, feed_source, block_for}
-use Rattle.image_build.proofs.MemberLemmas.{made_there}
-use Rattle.image_build.proofs.SourceLemmas.{own_source, got_source}
-use Rattle.image_build.proofs.WorkLemmas.{eval_for, pasts}
+use Rattle.image_defs.specs.declared.image.{Source.Source, Source.TheVariants.Own, Source.TheVariants.Got, Source.TheVariants.Const, Task.Task}
+use Rattle.image_defs.specs.declared.image.{Task.TheVariants.Eval, Task.TheVariants.Hold, BlockWork.BlockWork, PortImage.PortImage, Image.Image}
+use Rattle.image_defs.proofs.lemmas.PlaceLemmas.{sender_found}
+use Rattle.plan_defs.specs.{declared.plan.Homes.Homes, Homes.home_of, Homes.ports_of, Slots.slot_of}
+use Rattle.image_build.specs.{PortItems.IsAt, PortItems.ArePlanClaims, code.Layouts.source_of, code.Layouts.feed_source, code.Layouts.block_for}
+use Rattle.image_build.proofs.{MemberLemmas.made_there, SourceLemmas.own_source, SourceLemmas.got_source, WorkLemmas.eval_for, WorkLemmas.pasts}
 
 -- lists of one length with the same members at each place are one list
 pub same_by : {X : Type 0} (xs ys : List X) → length xs ≡ length ys → ((k : ℕ) (x y : X) → slice_get xs k ≡ Some x → slice_get ys k ≡ Some y → x ≡ y) → xs ≡ ys

@@ -1,25 +1,15 @@
 -- Items at their ports: which items a port has, by its kind.
 use Rattle.std.proofs.Common.{◌≡◌, ℕ, zero, suc, ◌+◌, ◌<◌, ◌≤◌, List, [], ◌∷◌, length, map, max, get_or, Some, slice_get, sym, ap, ◌∙◌, subst, arith}
-use Rattle.std.specs.List.{fold}
-use Rattle.std.specs.List.Sorted.{IsStrictlyIncreasing}
-use Rattle.std.proofs.lemmas.List.{length-map, get_or-map}
-use Rattle.std.proofs.lemmas.Option.{slice_get-get_or}
+use Rattle.std.proofs.lemmas.{List.length-map, List.get_or-map, Option.slice_get-get_or}
+use Rattle.std.specs.List.{fold, Sorted.IsStrictlyIncreasing}
 use Rattle.limits.specs.declared.TheConstants.{MAX_SLOTS}
-use Rattle.node_defs.specs.declared.items.Item.{Item}
 use Rattle.node_defs.specs.declared.items.Item.TheVariants.{Input, BlockBit, Node, Latch}
-use Rattle.node_defs.specs.declared.items.NodeNet.{NodeNet}
-use Rattle.node_defs.specs.WellFormed.{IsComputed, NamesParts}
-use Rattle.plan_defs.specs.declared.plan.Homes.{Homes}
-use Rattle.plan_defs.specs.declared.plan.Plan.{Plan}
+use Rattle.node_defs.specs.{declared.items.Item.Item, declared.items.NodeNet.NodeNet, WellFormed.IsComputed, WellFormed.NamesParts}
 use Rattle.plan_defs.specs.Homes.{home_of, block_home, host_of, MayHouse}
-use Rattle.plan_defs.specs.Slots.{slot_of}
-use Rattle.image_defs.specs.declared.image.OutBit.{OutBit}
-use Rattle.image_defs.specs.Matches.{claims_of}
-use Rattle.image_build.specs.declared.memories.Memories.{Memories}
-use Rattle.image_build.specs.PortItems.{IsAt, ArePortItems}
-use Rattle.image_build.specs.code.Layouts.{IsBitFor}
-use Rattle.image_build.specs.Plans.{IsPlanned}
+use Rattle.plan_defs.specs.{declared.plan.Homes.Homes, declared.plan.Plan.Plan, Slots.slot_of}
+use Rattle.image_defs.specs.{declared.image.OutBit.OutBit, Matches.claims_of}
 use Rattle.image_build.specs.code.Plans.{IsInputItem, IsBitItem, IsBitAt, AreMemories}
+use Rattle.image_build.specs.{declared.memories.Memories.Memories, PortItems.IsAt, PortItems.ArePortItems, code.Layouts.IsBitFor, Plans.IsPlanned}
 
 -- what stands in a port's list is at the port
 pub at_port : (nodes : NodeNet) (homes : Homes) (slots : List ℕ) (p : ℕ) (items : List ℕ) (k x : ℕ) → ArePortItems nodes homes slots p items → slice_get items k ≡ Some x → IsAt nodes homes p x

@@ -1,19 +1,11 @@
 -- The ports, one after another.
 use Rattle.std.proofs.Common.{◌≡◌, inl, inr, ℕ, ◌+◌, List, [], ◌∷◌, ◌++◌, length, Some, slice_get, sym, ap, ◌∙◌, refl, arith}
-use Rattle.std.proofs.lemmas.Bool.{cases_lt}
-use Rattle.std.proofs.lemmas.List.{length_push}
-use Rattle.std.proofs.lemmas.Option.{slice_get_within}
+use Rattle.std.proofs.lemmas.{Bool.cases_lt, List.length_push, Option.slice_get_within}
 use Rattle.list_laws.proofs.Places.{at_front}
 use Rattle.node_defs.specs.declared.items.NodeNet.{NodeNet}
-use Rattle.image_defs.specs.declared.image.PortImage.{PortImage}
-use Rattle.plan_defs.specs.declared.plan.Homes.{Homes}
-use Rattle.plan_defs.specs.declared.plan.Plan.{Plan}
-use Rattle.plan_defs.specs.declared.switch.PortLinks.{PortLinks}
-use Rattle.plan_defs.specs.declared.switch.Switch.{Switch}
-use Rattle.image_defs.specs.Matches.{claims_of}
-use Rattle.image_build.specs.Built.{AreLinksOf}
-use Rattle.image_build.specs.code.Layouts.{IsWorkFor}
-use Rattle.image_build.specs.code.Plans.{AreFirstPorts}
+use Rattle.image_defs.specs.{declared.image.PortImage.PortImage, Matches.claims_of}
+use Rattle.plan_defs.specs.declared.{plan.Homes.Homes, plan.Plan.Plan, switch.PortLinks.PortLinks, switch.Switch.Switch}
+use Rattle.image_build.specs.{Built.AreLinksOf, code.Layouts.IsWorkFor, code.Plans.AreFirstPorts}
 use Rattle.image_build.proofs.GrowLemmas.{last_place}
 
 module _ (nodes : NodeNet) (homes : Homes) (plan : Plan) (switch : Switch) (claims : List (List ℕ)) where

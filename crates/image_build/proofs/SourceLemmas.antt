@@ -1,41 +1,21 @@
 -- Where a port takes items from: what it uses is at it or comes to it, and stands early enough.
 use Rattle.std.proofs.Common.{◌≡◌, ◌≢◌, ◌∙◌, ◌⊎◌, inl, inr, ℕ, ◌<◌, ◌==◌, Bool, true, false, if◌then◌else◌, List, length, Some, slice_get, refl, sym, ap, subst, arith, eq-eqb, [], ◌∷◌, map}
+use Rattle.std.proofs.lemmas.{Bool.cases_eq, Bool.cases_lt, Bool.ne_eqb, Option.slice_get_within}
 use Rattle.std.specs.List.Sorted.{IsStrictlyIncreasing}
-use Rattle.std.proofs.lemmas.Bool.{cases_eq, cases_lt, ne_eqb}
-use Rattle.std.proofs.lemmas.Option.{slice_get_within}
 use Rattle.list_laws.proofs.Members.{member_at}
 use Rattle.net_defs.specs.declared.timing.Timing.{Timing}
-use Rattle.node_defs.specs.declared.items.Tag.{Tag}
-use Rattle.node_defs.specs.declared.items.Tag.TheVariants.{This, Last}
-use Rattle.node_defs.specs.declared.items.Feed.{Feed}
-use Rattle.node_defs.specs.declared.items.Feed.TheVariants.{From, Fixed}
-use Rattle.node_defs.specs.declared.items.Item.{Item}
-use Rattle.node_defs.specs.declared.items.NodeNet.{NodeNet}
-use Rattle.node_defs.specs.Takes.{FeedTakes, FeedAwaits, Awaits}
-use Rattle.image_defs.specs.declared.image.Source.{Source}
-use Rattle.image_defs.specs.declared.image.Source.TheVariants.{Own, Got}
-use Rattle.image_defs.specs.declared.image.LinkIn.{LinkIn}
-use Rattle.image_defs.specs.declared.image.PortImage.{PortImage}
-use Rattle.image_defs.specs.declared.image.Image.{Image}
+use Rattle.node_defs.specs.declared.items.{Tag.Tag, Tag.TheVariants.This, Tag.TheVariants.Last, Feed.Feed, Feed.TheVariants.From, Feed.TheVariants.Fixed}
+use Rattle.node_defs.specs.{declared.items.Item.Item, declared.items.NodeNet.NodeNet, Takes.FeedTakes, Takes.FeedAwaits, Takes.Awaits}
 use Rattle.image_defs.specs.Places.{Stands, IsPort, in_slots, sender_in}
 use Rattle.image_defs.specs.WellFormed.{IsThere, IsBefore, IsOfLast, IsOperand, IsPast, IsPresent}
-use Rattle.image_defs.proofs.lemmas.PlaceLemmas.{sender_found}
+use Rattle.image_defs.specs.declared.image.{Source.Source, Source.TheVariants.Own, Source.TheVariants.Got, LinkIn.LinkIn, PortImage.PortImage, Image.Image}
 use Rattle.image_defs.specs.Matches.{ClaimsIn, is_last, Carries}
-use Rattle.plan_defs.specs.declared.plan.Homes.{Homes}
-use Rattle.plan_defs.specs.declared.plan.Plan.{Plan}
-use Rattle.plan_defs.specs.declared.switch.Receipt.{Receipt}
-use Rattle.plan_defs.specs.declared.switch.PortLinks.{PortLinks}
-use Rattle.plan_defs.specs.declared.switch.Switch.{Switch}
-use Rattle.plan_defs.specs.Homes.{home_of, ports_of}
-use Rattle.plan_defs.specs.Readers.{IsUser, IsReader}
-use Rattle.plan_defs.specs.Slots.{slot_of}
-use Rattle.plan_defs.specs.Switches.{IsReceiptOf, IsSwitch}
+use Rattle.image_defs.proofs.lemmas.PlaceLemmas.{sender_found}
+use Rattle.plan_defs.specs.declared.{plan.Homes.Homes, plan.Plan.Plan, switch.Receipt.Receipt, switch.PortLinks.PortLinks, switch.Switch.Switch}
+use Rattle.plan_defs.specs.{Homes.home_of, Homes.ports_of, Readers.IsUser, Readers.IsReader, Slots.slot_of, Switches.IsReceiptOf, Switches.IsSwitch}
 use Rattle.plan_defs.proofs.lemmas.PortLemmas.{user_port}
-use Rattle.image_build.specs.Plans.{IsPlanned}
-use Rattle.image_build.specs.Built.{link_in}
-use Rattle.image_build.specs.code.Layouts.{source_of, feed_source, IsLaidOut}
-use Rattle.image_build.proofs.MemberLemmas.{made_there}
-use Rattle.image_build.proofs.ClaimLemmas.{port_low, claimed, item_there}
+use Rattle.image_build.specs.{Plans.IsPlanned, Built.link_in, code.Layouts.source_of, code.Layouts.feed_source, code.Layouts.IsLaidOut}
+use Rattle.image_build.proofs.{MemberLemmas.made_there, ClaimLemmas.port_low, ClaimLemmas.claimed, ClaimLemmas.item_there}
 
 -- ---- where a source is from
 

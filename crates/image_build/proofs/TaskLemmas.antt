@@ -1,21 +1,13 @@
 -- Tasks and their tables, one after another.
 use Rattle.std.proofs.Common.{◌≡◌, ◌⊎◌, inl, inr, ℕ, ◌+◌, ◌<◌, ◌≤◌, List, [], ◌∷◌, ◌++◌, length, take, get_or, Some, slice_get, sym, ap, ◌∙◌, subst, refl, arith}
-use Rattle.std.proofs.lemmas.Bool.{cases_lt}
-use Rattle.std.proofs.lemmas.List.{length_push}
-use Rattle.std.proofs.lemmas.Option.{slice_get_within}
+use Rattle.std.proofs.lemmas.{Bool.cases_lt, List.length_push, Option.slice_get_within}
 use Rattle.list_laws.proofs.Places.{at_front, seam_at}
-use Rattle.func_table.specs.declared.table.Table.{Table}
-use Rattle.func_table.specs.Shelf.{AreDifferent}
-use Rattle.node_defs.specs.declared.items.Item.{Item}
+use Rattle.func_table.specs.{declared.table.Table.Table, Shelf.AreDifferent}
 use Rattle.node_defs.specs.declared.items.Item.TheVariants.{Input, BlockBit, Node, Latch}
-use Rattle.node_defs.specs.declared.items.NodeNet.{NodeNet}
-use Rattle.image_defs.specs.declared.image.Source.{Source}
-use Rattle.image_defs.specs.declared.image.Task.{Task}
-use Rattle.image_defs.specs.declared.image.Task.TheVariants.{Eval, Hold}
+use Rattle.node_defs.specs.declared.items.{Item.Item, NodeNet.NodeNet}
+use Rattle.image_defs.specs.declared.image.{Source.Source, Task.Task, Task.TheVariants.Eval, Task.TheVariants.Hold}
 use Rattle.plan_defs.specs.declared.plan.Homes.{Homes}
-use Rattle.image_build.specs.Built.{Evaluates, AreInOrderOfUse}
-use Rattle.image_build.specs.code.Layouts.{IsTaskFor}
-use Rattle.image_build.specs.code.Plans.{Shelves, AreFirstTasks}
+use Rattle.image_build.specs.{Built.Evaluates, Built.AreInOrderOfUse, code.Layouts.IsTaskFor, code.Plans.Shelves, code.Plans.AreFirstTasks}
 use Rattle.image_build.proofs.GrowLemmas.{last_place, made_kept, made_next}
 
 -- ---- tables

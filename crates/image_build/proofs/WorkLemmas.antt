@@ -1,47 +1,25 @@
 -- What a port of an image that is laid out does: it names what is there, and does what its items do.
 use Rattle.std.proofs.Common.{◌≡◌, ◌∙◌, inl, inr, ℕ, ◌<◌, ◌≤◌, List, length, map, Some, slice_get, true, false, refl, sym, ap, subst, arith}
+use Rattle.std.proofs.lemmas.{List.length-map, Option.slice_get_within}
 use Rattle.std.specs.List.{Contains}
-use Rattle.std.proofs.lemmas.List.{length-map}
-use Rattle.std.proofs.lemmas.Option.{slice_get_within}
-use Rattle.list_laws.proofs.Members.{member_at, mapped_at, listed}
-use Rattle.list_laws.proofs.Options.{one_some}
+use Rattle.list_laws.proofs.{Members.member_at, Members.mapped_at, Members.listed, Options.one_some}
 use Rattle.net_defs.specs.declared.timing.Timing.{Timing}
 use Rattle.func_table.specs.declared.table.Table.{Table}
-use Rattle.node_defs.specs.declared.items.Tag.TheVariants.{This, Last}
-use Rattle.node_defs.specs.declared.items.Feed.TheVariants.{From}
-use Rattle.node_defs.specs.declared.items.Feeds.{Feeds}
-use Rattle.node_defs.specs.declared.items.Item.{Item}
 use Rattle.node_defs.specs.declared.items.Item.TheVariants.{Input, BlockBit, Node, Latch}
-use Rattle.node_defs.specs.declared.items.NodeBlock.{NodeBlock}
-use Rattle.node_defs.specs.declared.items.NodeNet.{NodeNet}
-use Rattle.node_defs.specs.Takes.{Takes, BlockTakes}
-use Rattle.node_defs.specs.WellFormed.{IsMemoryOf, column_count}
-use Rattle.image_defs.specs.declared.image.Source.{Source}
-use Rattle.image_defs.specs.declared.image.Task.{Task}
-use Rattle.image_defs.specs.declared.image.Task.TheVariants.{Eval, Hold}
-use Rattle.image_defs.specs.declared.image.BlockWork.{BlockWork}
-use Rattle.image_defs.specs.declared.image.OutBit.{OutBit}
-use Rattle.image_defs.specs.declared.image.InColumn.{InColumn}
-use Rattle.image_defs.specs.declared.image.Work.{Work}
-use Rattle.image_defs.specs.declared.image.Work.TheVariants.{Logic, Array, Host}
-use Rattle.image_defs.specs.declared.image.PortImage.{PortImage}
-use Rattle.image_defs.specs.declared.image.Image.{Image}
-use Rattle.image_defs.specs.Places.{Each, IsPort, printed_of}
+use Rattle.node_defs.specs.declared.items.{Tag.TheVariants.This, Tag.TheVariants.Last, Feed.TheVariants.From, Feeds.Feeds, Item.Item, NodeBlock.NodeBlock}
+use Rattle.node_defs.specs.{declared.items.NodeNet.NodeNet, Takes.Takes, Takes.BlockTakes, WellFormed.IsMemoryOf, WellFormed.column_count}
 use Rattle.image_defs.specs.WellFormed.{IsPast, IsPresent, IsTask, IsBlock, IsBit, IsWork}
 use Rattle.image_defs.specs.Matches.{claims_of, IsClaim, Carries, CarryAll, MemoryImplements, TaskImplements, BitImplements, InputImplements, Implements}
-use Rattle.plan_defs.specs.declared.plan.Homes.{Homes}
-use Rattle.plan_defs.specs.declared.plan.Plan.{Plan}
-use Rattle.plan_defs.specs.declared.switch.Switch.{Switch}
-use Rattle.plan_defs.specs.Homes.{block_home, host_of}
-use Rattle.plan_defs.specs.Readers.{IsUser}
-use Rattle.plan_defs.specs.Slots.{slot_of}
-use Rattle.plan_defs.specs.Switches.{IsSwitch}
-use Rattle.image_build.specs.PortItems.{IsAt}
-use Rattle.image_build.specs.Plans.{IsPlanned}
+use Rattle.image_defs.specs.declared.image.{Source.Source, Task.Task, Task.TheVariants.Eval, Task.TheVariants.Hold, BlockWork.BlockWork, OutBit.OutBit}
+use Rattle.image_defs.specs.declared.image.{InColumn.InColumn, Work.Work, Work.TheVariants.Logic, Work.TheVariants.Array, Work.TheVariants.Host}
+use Rattle.image_defs.specs.{declared.image.PortImage.PortImage, declared.image.Image.Image, Places.Each, Places.IsPort, Places.printed_of}
+use Rattle.plan_defs.specs.{declared.plan.Homes.Homes, declared.plan.Plan.Plan, declared.switch.Switch.Switch, Homes.block_home, Homes.host_of, Readers.IsUser}
+use Rattle.plan_defs.specs.{Slots.slot_of, Switches.IsSwitch}
 use Rattle.image_build.specs.Built.{AreInOrderOfUse, ArePortMemories, AreBlocksOf, IsOrdered}
 use Rattle.image_build.specs.code.Layouts.{source_of, feed_source, IsTaskFor, AreTasks, block_for, AreBlocks, IsBitFor, AreBits, IsInputFor, AreInputs, IsWorkFor, IsLaidOut}
-use Rattle.image_build.proofs.ClaimLemmas.{port_low, claim_at}
+use Rattle.image_build.specs.{PortItems.IsAt, Plans.IsPlanned}
 use Rattle.image_build.proofs.SourceLemmas.{early, feed_right, past_right, present_right}
+use Rattle.image_build.proofs.ClaimLemmas.{port_low, claim_at}
 
 -- the task that looks the node's operands up in table n
 abbrev pub eval_for : Homes → List ℕ → ℕ → ℕ → ℕ → Feeds → Task

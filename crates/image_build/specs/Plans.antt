@@ -1,12 +1,8 @@
 -- Items in a plan, and what is known while their work is laid out.
 use Rattle.std.specs.Prelude.{◌≤◌}
 use Rattle.limits.specs.declared.TheConstants.{MAX_SLOTS}
-use Rattle.node_defs.specs.declared.items.NodeNet.{NodeNet}
-use Rattle.node_defs.specs.WellFormed.{IsWellFormed}
-use Rattle.plan_defs.specs.declared.plan.Homes.{Homes}
-use Rattle.plan_defs.specs.declared.plan.Plan.{Plan}
-use Rattle.plan_defs.specs.Homes.{AreHomes}
-use Rattle.plan_defs.specs.Slots.{IsFirstFitPlan}
+use Rattle.node_defs.specs.{declared.items.NodeNet.NodeNet, WellFormed.IsWellFormed}
+use Rattle.plan_defs.specs.{declared.plan.Homes.Homes, declared.plan.Plan.Plan, Homes.AreHomes, Slots.IsFirstFitPlan}
 
 -- well-formed items at their homes, in their first-fit plan
 pub record IsPlanned (nodes : NodeNet) (homes : Homes) (plan : Plan) : Type 0 where

@@ -1,9 +1,7 @@
 -- The items of a port in slot order: what the plan puts there.
 use Rattle.std.specs.Prelude.{◌≡◌, ℕ, ◌<◌, List, length}
 use Rattle.node_defs.specs.declared.items.NodeNet.{NodeNet}
-use Rattle.plan_defs.specs.declared.plan.Homes.{Homes}
-use Rattle.plan_defs.specs.Homes.{home_of, ports_of}
-use Rattle.plan_defs.specs.Slots.{slot_of}
+use Rattle.plan_defs.specs.{declared.plan.Homes.Homes, Homes.home_of, Homes.ports_of, Slots.slot_of}
 use Rattle.switch_set.specs.Links.{IsSlotList}
 use Rattle.image_defs.specs.Matches.{claims_of}
 

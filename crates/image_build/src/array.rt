@@ -3,12 +3,9 @@
 ghost use Rattle.std.specs.Prelude.{◌≡◌, ◌<◌, ◌≤◌, ℕ, IfOk, Some, length, slice_get};
 ghost use Rattle.plan_defs.specs.Homes.{host_of};
 ghost use Rattle.image_defs.specs.Matches.{claims_of};
-ghost use Rattle.node_defs.specs.declared.items.Item.TheVariants.{BlockBit};
-ghost use Rattle.node_defs.specs.Takes.{BlockTakes};
-ghost use Rattle.image_build.specs.PortItems.{ArePortItems};
-ghost use Rattle.image_build.specs.Built.{ArePortMemories};
+ghost use Rattle.node_defs.specs.{declared.items.Item.TheVariants.BlockBit, Takes.BlockTakes};
 ghost use Rattle.image_build.specs.code.Layouts.{block_for, AreBlocks, AreBits, IsWorkFor};
-ghost use Rattle.image_build.specs.Plans.{IsPlanned};
+ghost use Rattle.image_build.specs.{PortItems.ArePortItems, Built.ArePortMemories, Plans.IsPlanned};
 ghost use Rattle.image_build.specs.code.Plans.{AreMemories, IsBitItem, IsBitAt};
 
 use crate::memories::Memories;

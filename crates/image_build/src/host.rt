@@ -3,9 +3,7 @@
 ghost use Rattle.std.specs.Prelude.{◌≡◌, ◌<◌, ◌^◌, IfOk, count_by, length};
 ghost use Rattle.plan_defs.specs.Homes.{host_of};
 ghost use Rattle.node_defs.specs.WellFormed.{is_input};
-ghost use Rattle.image_build.specs.PortItems.{ArePortItems};
-ghost use Rattle.image_build.specs.code.Layouts.{AreInputs, IsInputFor, IsWorkFor};
-ghost use Rattle.image_build.specs.Plans.{IsPlanned};
+ghost use Rattle.image_build.specs.{PortItems.ArePortItems, code.Layouts.AreInputs, code.Layouts.IsInputFor, code.Layouts.IsWorkFor, Plans.IsPlanned};
 ghost use Rattle.image_build.specs.code.Plans.{IsInputItem};
 
 use crate::sources::sources_of;

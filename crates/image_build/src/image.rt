@@ -2,19 +2,11 @@
 
 ghost use Rattle.std.specs.Prelude.{◌≡◌, ◌<◌, ◌≤◌, ℕ, List as Items, IfOk, length};
 ghost use Rattle.limits.specs.declared.TheConstants.{MAX_SLOTS};
-ghost use Rattle.net_defs.specs.declared.stimulus.Stimulus.{Stimulus};
-ghost use Rattle.net_defs.specs.Steps.{State};
-ghost use Rattle.net_defs.specs.Valid.{IsValidTiming};
-ghost use Rattle.node_defs.specs.WellFormed.{IsWellFormed};
-ghost use Rattle.node_defs.specs.Values.{AreItemValues};
-ghost use Rattle.plan_defs.specs.Homes.{AreHomes, ports_of};
-ghost use Rattle.plan_defs.specs.Slots.{IsFirstFitPlan};
-ghost use Rattle.plan_defs.specs.Switches.{IsSwitch};
-ghost use Rattle.image_build.specs.PortItems.{ArePortItems, ArePlanClaims};
-ghost use Rattle.image_build.specs.Built.{AreLinksOf, IsBuilt, GivesItems};
-ghost use Rattle.image_build.specs.code.Layouts.{IsWorkFor, IsLaidOut};
-ghost use Rattle.image_build.specs.Plans.{IsPlanned};
-ghost use Rattle.image_build.specs.code.Plans.{AreMemories, AreFirstPorts};
+ghost use Rattle.net_defs.specs.{declared.stimulus.Stimulus.Stimulus, Steps.State, Valid.IsValidTiming};
+ghost use Rattle.node_defs.specs.{WellFormed.IsWellFormed, Values.AreItemValues};
+ghost use Rattle.plan_defs.specs.{Homes.AreHomes, Homes.ports_of, Slots.IsFirstFitPlan, Switches.IsSwitch};
+ghost use Rattle.image_build.specs.{PortItems.ArePortItems, PortItems.ArePlanClaims, Built.AreLinksOf, Built.IsBuilt, Built.GivesItems};
+ghost use Rattle.image_build.specs.{code.Layouts.IsWorkFor, code.Layouts.IsLaidOut, Plans.IsPlanned, code.Plans.AreMemories, code.Plans.AreFirstPorts};
 
 use crate::array::array_work;
 use crate::host::{column_count, host_work};

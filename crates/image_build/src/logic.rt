@@ -1,12 +1,8 @@
 //! The work of a logic port.
 
 ghost use Rattle.std.specs.Prelude.{◌≡◌, ◌<◌, ◌-◌, ◌^◌, ℕ, IfOk, length};
-ghost use Rattle.node_defs.specs.Takes.{Takes};
-ghost use Rattle.node_defs.specs.WellFormed.{IsComputed, NamesParts};
-ghost use Rattle.image_build.specs.PortItems.{ArePortItems};
-ghost use Rattle.image_build.specs.code.Layouts.{IsTaskFor, IsWorkFor};
-ghost use Rattle.image_build.specs.Plans.{IsPlanned};
-ghost use Rattle.image_build.specs.code.Plans.{Shelves};
+ghost use Rattle.node_defs.specs.{Takes.Takes, WellFormed.IsComputed, WellFormed.NamesParts};
+ghost use Rattle.image_build.specs.{PortItems.ArePortItems, code.Layouts.IsTaskFor, code.Layouts.IsWorkFor, Plans.IsPlanned, code.Plans.Shelves};
 
 use crate::sources::{feed_source, source_of};
 use func_table::Shelf;

@@ -2,8 +2,7 @@
 
 ghost use Rattle.std.specs.Prelude.{◌≡◌, ◌<◌, ◌∷◌, ◌++◌, [], IfOk, OnOk, length, replicate, slice_set};
 ghost use Rattle.image_defs.specs.Matches.{claims_of};
-ghost use Rattle.image_build.specs.PortItems.{ArePlanClaims};
-ghost use Rattle.image_build.specs.Plans.{IsPlanned};
+ghost use Rattle.image_build.specs.{PortItems.ArePlanClaims, Plans.IsPlanned};
 
 use node_defs::NodeNet;
 use plan_defs::{Homes, Plan};

@@ -1,20 +1,15 @@
 -- Each image matches, or the check has a refusal of it.
 use Rattle.std.proofs.Common.{◌⊎◌, inl, inr, ℕ, length}
+use Rattle.std.proofs.lemmas.{Bool.cases_eq, Option.slice_get_within}
 use Rattle.std.specs.Prelude.{slice_get}
-use Rattle.std.proofs.lemmas.Bool.{cases_eq}
-use Rattle.std.proofs.lemmas.Option.{slice_get_within}
 use Rattle.net_defs.specs.declared.timing.Timing.{Timing}
 use Rattle.node_defs.specs.declared.items.NodeNet.{NodeNet}
-use Rattle.image_defs.specs.declared.image.PortImage.{PortImage}
-use Rattle.image_defs.specs.Places.{IsPort, IsItemIn, item_slots}
-use Rattle.image_defs.specs.WellFormed.{IsWellFormed}
+use Rattle.image_defs.specs.Claimed.{lists_of, HasClaims, HasTiming, PlaceMatches, ColumnMatches}
+use Rattle.image_defs.specs.{declared.image.PortImage.PortImage, Places.IsPort, Places.IsItemIn, Places.item_slots, WellFormed.IsWellFormed}
 use Rattle.image_defs.specs.declared.file.ImageFile.{ImageFile}
 use Rattle.image_check.specs.declared.check.CheckNo.TheVariants as no
-use Rattle.image_check.specs.Check.{HasAnswer}
-use Rattle.image_defs.specs.Claimed.{lists_of, HasClaims, HasTiming, PlaceMatches, ColumnMatches}
-use Rattle.image_check.specs.code.Differences.{IsFirstSlot}
-use Rattle.image_check.proofs.FirstLemmas.{all_match, first_place_at}
-use Rattle.image_check.proofs.FormKnown.{form_known, stands_known}
+use Rattle.image_check.specs.{Check.HasAnswer, code.Differences.IsFirstSlot}
+use Rattle.image_check.proofs.{FirstLemmas.all_match, FirstLemmas.first_place_at, FormKnown.form_known, FormKnown.stands_known}
 use Rattle.image_check.proofs.lemmas.KnownLemmas.{known_some, first_or_all}
 use Rattle.image_check.proofs.lemmas.MatchKnown.{place_known, column_known, timing_known}
 

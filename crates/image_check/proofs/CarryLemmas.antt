@@ -1,19 +1,10 @@
 -- Sources that carry operands.
 use Rattle.std.proofs.Common.{◌≡◌, ◌↔◌, IsTrue, Bool, true, false, rules, ℕ, ◌+◌, ◌<◌, ◌≤◌, List, length, get_or, Some, slice_get, inl, inr, sym, subst, arith}
 use Rattle.std.proofs.lemmas.Option.{slice_get_within, slice_get-get_or}
-use Rattle.list_laws.proofs.Places.{one_there}
-use Rattle.list_laws.proofs.Ranges.{last_or}
-use Rattle.node_defs.specs.declared.items.Feed.TheVariants.{From}
-use Rattle.node_defs.specs.declared.items.Feeds.{Feeds}
-use Rattle.node_defs.specs.declared.items.Tag.TheVariants.{Last}
-use Rattle.node_defs.specs.declared.items.NodeBlock.{NodeBlock}
-use Rattle.image_defs.specs.declared.image.Source.{Source}
-use Rattle.image_defs.specs.declared.image.BlockWork.{BlockWork}
-use Rattle.image_defs.specs.Matches.{CarryAll, MemoryImplements}
-use Rattle.image_check.specs.declared.claims.OnePort.{OnePort}
-use Rattle.image_check.specs.declared.nodes.Operands.{Operands}
-use Rattle.image_defs.specs.Claimed.{lists_of}
-use Rattle.image_check.specs.code.OnePorts.{CarriesAt, CarryFour}
+use Rattle.list_laws.proofs.{Places.one_there, Ranges.last_or}
+use Rattle.node_defs.specs.declared.items.{Feed.TheVariants.From, Feeds.Feeds, Tag.TheVariants.Last, NodeBlock.NodeBlock}
+use Rattle.image_defs.specs.{declared.image.Source.Source, declared.image.BlockWork.BlockWork, Matches.CarryAll, Matches.MemoryImplements, Claimed.lists_of}
+use Rattle.image_check.specs.{declared.claims.OnePort.OnePort, declared.nodes.Operands.Operands, code.OnePorts.CarriesAt, code.OnePorts.CarryFour}
 
 -- the first n sources carry the first n items
 abbrev pub CarryBelow : OnePort → List Source → List ℕ → ℕ → Type 0

@@ -1,19 +1,12 @@
 -- Claims of places that are searched for by their slot.
 use Rattle.std.proofs.Common.{◌≡◌, ◌↔◌, IsTrue, Bool, false, ℕ, ◌<◌, List, [], length, Option, Some, None, slice_get, refl, sym, ap, ◌∙◌, subst, arith}
-use Rattle.std.specs.List.Sorted.{IsStrictlyIncreasing}
-use Rattle.std.specs.Option.{option_map, unwrap_or}
 use Rattle.std.proofs.lemmas.Option.{slice_get-map, slice_get_within, get_or_from_slice_get, unwrap_or-slice_get}
+use Rattle.std.specs.{List.Sorted.IsStrictlyIncreasing, Option.option_map, Option.unwrap_or}
 use Rattle.list_laws.proofs.Places.{one_there, within_some}
-use Rattle.image_defs.specs.declared.image.PortImage.{PortImage}
-use Rattle.image_defs.specs.declared.image.Image.{Image}
-use Rattle.image_defs.specs.Places.{IsPort, item_slots}
-use Rattle.image_defs.specs.Matches.{IsClaim, ClaimsIn, claims_of}
-use Rattle.image_defs.specs.declared.file.PortClaims.{PortClaims}
-use Rattle.image_defs.specs.declared.file.Claims.{Claims}
-use Rattle.image_check.specs.declared.shapes.Shape.{Shape}
+use Rattle.image_defs.specs.{declared.image.PortImage.PortImage, declared.image.Image.Image, Places.IsPort, Places.item_slots}
+use Rattle.image_defs.specs.{Matches.IsClaim, Matches.ClaimsIn, Matches.claims_of, declared.file.PortClaims.PortClaims, declared.file.Claims.Claims}
 use Rattle.image_defs.specs.Claimed.{lists_of}
-use Rattle.image_check.specs.code.OnePorts.{AreLaidOut, ClaimedIn}
-use Rattle.image_check.specs.code.Shapes.{IsShapeOf, IsRising}
+use Rattle.image_check.specs.{declared.shapes.Shape.Shape, code.OnePorts.AreLaidOut, code.OnePorts.ClaimedIn, code.Shapes.IsShapeOf, code.Shapes.IsRising}
 use Rattle.image_check.proofs.SearchLemmas.{one_place}
 
 -- the claims of a port

@@ -1,31 +1,18 @@
 -- The first slot that doesn't match, and an image all of whose places and columns match.
 use Rattle.std.proofs.Common.{◌≡◌, ◌↔◌, IsTrue, false, ℕ, ◌+◌, ◌-◌, ◌<◌, ◌≤◌, List, length, get_or, slice_index_or, Some, None, slice_get, Option, inl, inr, refl, sym, ap, ◌∙◌, subst, arith}
+use Rattle.std.proofs.lemmas.{Bool.cases_lt, List.length-map, Option.slice_get_within, Option.slice_get-get_or, Option.get_or_from_slice_get}
 use Rattle.std.specs.List.Sorted.{IsStrictlyIncreasing}
-use Rattle.std.proofs.lemmas.Bool.{cases_lt}
-use Rattle.std.proofs.lemmas.List.{length-map}
-use Rattle.std.proofs.lemmas.Option.{slice_get_within, slice_get-get_or, get_or_from_slice_get}
-use Rattle.list_laws.proofs.Places.{one_there, within_some, indexed}
-use Rattle.list_laws.proofs.Ranges.{last_or}
+use Rattle.list_laws.proofs.{Places.one_there, Places.within_some, Places.indexed, Ranges.last_or}
 use Rattle.net_defs.specs.declared.timing.Timing.{Timing}
-use Rattle.node_defs.specs.declared.items.Feed.TheVariants.{From}
-use Rattle.node_defs.specs.declared.items.NodeNet.{NodeNet}
-use Rattle.node_defs.specs.declared.items.Tag.TheVariants.{This}
-use Rattle.image_defs.specs.declared.image.Image.{Image}
-use Rattle.image_defs.specs.declared.image.PortImage.{PortImage}
-use Rattle.image_defs.specs.declared.image.Source.{Source}
+use Rattle.node_defs.specs.declared.items.{Feed.TheVariants.From, NodeNet.NodeNet, Tag.TheVariants.This}
 use Rattle.image_defs.specs.Places.{IsPort, IsItemIn, item_slots, host_of}
 use Rattle.image_defs.specs.Matches.{IsClaim, ImplementsClaim, PrintsItems, Matches, claims_of}
-use Rattle.image_defs.specs.declared.file.PortClaims.{PortClaims}
-use Rattle.image_defs.specs.declared.file.ImageFile.{ImageFile}
-use Rattle.image_check.specs.declared.claims.OnePort.{OnePort}
-use Rattle.image_check.specs.declared.shapes.Shape.{Shape}
 use Rattle.image_defs.specs.Claimed.{lists_of, HasClaims, HasTiming, PlaceMatches, ColumnMatches, IsFirstPlace}
+use Rattle.image_defs.specs.declared.{image.Image.Image, image.PortImage.PortImage, image.Source.Source, file.PortClaims.PortClaims, file.ImageFile.ImageFile}
 use Rattle.image_check.specs.code.Differences.{AsClaimed, AllAsClaimed, IsFirstOther, IsFirstSlot, PrintsAt, IsFirstUnprinted}
-use Rattle.image_check.specs.code.OnePorts.{IsOnePort, AreLaidOut, CarriesAt}
-use Rattle.image_check.specs.code.Shapes.{IsShapeOf}
-use Rattle.image_check.proofs.ClaimLemmas.{claims_there}
-use Rattle.image_check.proofs.lemmas.EachLemmas.{EachAtBelow, each_at_more}
-use Rattle.image_check.proofs.SearchLemmas.{rises_far}
+use Rattle.image_check.specs.declared.{claims.OnePort.OnePort, shapes.Shape.Shape}
+use Rattle.image_check.specs.code.{OnePorts.IsOnePort, OnePorts.AreLaidOut, OnePorts.CarriesAt, Shapes.IsShapeOf}
+use Rattle.image_check.proofs.{ClaimLemmas.claims_there, lemmas.EachLemmas.EachAtBelow, lemmas.EachLemmas.each_at_more, SearchLemmas.rises_far}
 use Rattle.image_check.proofs.ShapeLemmas.{shape_found}
 
 -- slots rise, so the least slot is that of the first item

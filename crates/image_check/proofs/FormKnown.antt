@@ -1,23 +1,14 @@
 -- Whether an image is well formed is known.
 use Rattle.std.proofs.Common.{◌≡◌, ◌≢◌, ◌↔◌, ◌∙◌, inl, inr, Bool, true, false, ℕ, ◌+◌, ◌<◌, ◌≤◌, List, length, refl, ap, arith}
-use Rattle.std.specs.Prelude.{Some, slice_get, slice_index}
-use Rattle.std.specs.List.Sorted.{IsStrictlyIncreasing}
 use Rattle.std.proofs.lemmas.Bool.{cases_eq}
+use Rattle.std.specs.{Prelude.Some, Prelude.slice_get, Prelude.slice_index, List.Sorted.IsStrictlyIncreasing}
 use Rattle.limits.specs.declared.TheConstants.{MAX_SLOTS, MAX_UNITS, MAX_PORTS, MAX_ADDRESS_BITS, MAX_WORD_BITS}
-use Rattle.image_defs.specs.declared.image.Source.{Source}
-use Rattle.image_defs.specs.declared.image.Source.TheVariants.{Own, Got, Const}
-use Rattle.image_defs.specs.declared.image.Task.{Task}
-use Rattle.image_defs.specs.declared.image.Task.TheVariants.{Eval, Hold}
-use Rattle.image_defs.specs.declared.image.BlockWork.{BlockWork}
-use Rattle.image_defs.specs.declared.image.OutBit.{OutBit}
-use Rattle.image_defs.specs.declared.image.Work.{Work}
-use Rattle.image_defs.specs.declared.image.Work.TheVariants.{Logic, Array, Host}
-use Rattle.image_defs.specs.declared.image.LinkIn.{LinkIn}
-use Rattle.image_defs.specs.declared.image.LinkOut.{LinkOut}
-use Rattle.image_defs.specs.declared.image.PortImage.{PortImage}
-use Rattle.image_defs.specs.declared.image.Image.{Image}
 use Rattle.image_defs.specs.Places.{Each, Stands, item_slots, in_slots, out_slots, IsPort}
 use Rattle.image_defs.specs.WellFormed.{IsThere, IsBefore, IsOfLast, IsOperand, IsPast, IsPresent, IsTask, IsBlock, IsBit, IsWork, IsHost, ReceivesFrom, IsLinkOut, IsLinkIn, IsPortImage, IsWellFormed}
+use Rattle.image_defs.specs.declared.image.{Source.Source, Source.TheVariants.Own, Source.TheVariants.Got, Source.TheVariants.Const, Task.Task}
+use Rattle.image_defs.specs.declared.image.{Task.TheVariants.Eval, Task.TheVariants.Hold, BlockWork.BlockWork, OutBit.OutBit, Work.Work}
+use Rattle.image_defs.specs.declared.image.{Work.TheVariants.Logic, Work.TheVariants.Array, Work.TheVariants.Host, LinkIn.LinkIn, LinkOut.LinkOut}
+use Rattle.image_defs.specs.declared.image.{PortImage.PortImage, Image.Image}
 use Rattle.image_check.proofs.lemmas.KnownLemmas.{IsKnown, known_both, known_then, known_not, known_same, known_less, known_most, known_bool, known_some, known_all, known_member, known_each}
 
 -- ---- lists

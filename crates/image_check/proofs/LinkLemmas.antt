@@ -1,18 +1,12 @@
 -- Links of rising slots, searched for by their slot.
 use Rattle.std.proofs.Common.{◌≡◌, ◌≢◌, ◌↔◌, IsTrue, Bool, false, nat_eq, ◌==◌, slice_index_or, rules, tests, ℕ, ◌≤◌, List, [], ◌∷◌, length, map, Some, slice_get, sym, ap, ◌∙◌, subst, refl, arith}
-use Rattle.std.specs.List.Sorted.{IsStrictlyIncreasing}
-use Rattle.std.specs.Option.{option_map}
 use Rattle.std.proofs.lemmas.Option.{slice_get-map, get_or_from_slice_get}
-use Rattle.list_laws.proofs.Places.{one_there}
-use Rattle.list_laws.proofs.Members.{mapped_at}
-use Rattle.image_defs.specs.declared.image.LinkIn.{LinkIn}
-use Rattle.image_defs.specs.declared.image.LinkOut.{LinkOut}
-use Rattle.image_defs.specs.declared.image.PortImage.{PortImage}
-use Rattle.image_defs.specs.declared.image.Image.{Image}
+use Rattle.std.specs.{List.Sorted.IsStrictlyIncreasing, Option.option_map}
+use Rattle.list_laws.proofs.{Places.one_there, Members.mapped_at}
 use Rattle.image_defs.specs.Places.{Each, Stands, IsPort, item_slots, in_slots, out_slots}
+use Rattle.image_defs.specs.declared.image.{LinkIn.LinkIn, LinkOut.LinkOut, PortImage.PortImage, Image.Image}
 use Rattle.image_defs.specs.WellFormed.{IsLinkOut, IsLinkIn}
-use Rattle.image_check.specs.code.Links.{SendsTo, IsReader, link_in}
-use Rattle.image_check.specs.code.Shapes.{IsRising}
+use Rattle.image_check.specs.code.{Links.SendsTo, Links.IsReader, Links.link_in, Shapes.IsRising}
 use Rattle.image_check.proofs.SearchLemmas.{one_place}
 
 -- the slot of a member of a list

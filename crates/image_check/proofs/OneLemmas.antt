@@ -3,13 +3,10 @@ use Rattle.std.proofs.Common.{◌≡◌, ◌≢◌, ◌∙◌, sym, ap, refl, �
 use Rattle.std.proofs.lemmas.Bool.{cases_lt}
 use Rattle.net_defs.specs.declared.timing.Timing.{Timing}
 use Rattle.node_defs.specs.declared.items.NodeNet.{NodeNet}
-use Rattle.image_defs.specs.declared.image.Image.{Image}
-use Rattle.image_defs.specs.Matches.{Matches}
-use Rattle.image_defs.specs.declared.file.ImageFile.{ImageFile}
 use Rattle.image_defs.specs.Claimed.{lists_of, HasTiming, PlaceMatches, ColumnMatches, IsFirstPlace, IsFirstColumn}
-use Rattle.image_check.specs.declared.check.CheckNo.{CheckNo}
+use Rattle.image_defs.specs.{declared.image.Image.Image, Matches.Matches, declared.file.ImageFile.ImageFile}
+use Rattle.image_check.specs.{declared.check.CheckNo.CheckNo, Check.HasOneAnswer, Check.Says}
 use Rattle.image_check.specs.declared.check.CheckNo.TheVariants as no
-use Rattle.image_check.specs.Check.{HasOneAnswer, Says}
 
 -- what an accepted image has
 module _ (image : Image) (claims : List (List ℕ)) (nodes : NodeNet) (timing : Timing) (matches : Matches image claims nodes timing) where

@@ -1,13 +1,9 @@
 -- Ports and images that are well formed, by the parts that are looked at one after another.
 use Rattle.std.proofs.Common.{◌≡◌, ◌↔◌, IsTrue, Bool, ℕ, ◌<◌, List, sym, subst}
-use Rattle.image_defs.specs.declared.image.LinkIn.{LinkIn}
-use Rattle.image_defs.specs.declared.image.LinkOut.{LinkOut}
-use Rattle.image_defs.specs.declared.image.PortImage.{PortImage}
-use Rattle.image_defs.specs.declared.image.Image.{Image}
 use Rattle.image_defs.specs.Places.{Each, IsPort, item_slots, in_slots}
 use Rattle.image_defs.specs.WellFormed.{IsWork, IsLinkOut, IsLinkIn, IsPortImage, IsWellFormed}
-use Rattle.image_check.specs.code.Forms.{HasNumbers, IsHostLast}
-use Rattle.image_check.specs.code.Shapes.{IsRising, AreRising}
+use Rattle.image_defs.specs.declared.image.{LinkIn.LinkIn, LinkOut.LinkOut, PortImage.PortImage, Image.Image}
+use Rattle.image_check.specs.code.{Forms.HasNumbers, Forms.IsHostLast, Shapes.IsRising, Shapes.AreRising}
 
 -- a port whose other parts are right is right where its links in are
 pub port_by_links : (image : Image) (p : ℕ) (port : PortImage) (items ins : List ℕ) (outs : List LinkOut) (links : List LinkIn) (r : Bool) → items ≡ item_slots port.work → ins ≡ in_slots port.ins → outs ≡ port.outs → links ≡ port.ins → IsRising port

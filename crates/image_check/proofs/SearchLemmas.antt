@@ -1,14 +1,10 @@
 -- Numbers that are searched for in lists that rise.
 use Rattle.std.proofs.Common.{◌≡◌, ℕ, suc, ◌<◌, ◌≤◌, ◌==◌, false, List, [], ◌∷◌, length, get_or, slice_index_or, Some, None, slice_get, Option, Err, nat_cmp, inl, inr, sym, ap, ◌∙◌, subst, refl, arith, rules, tests}
-use Rattle.std.specs.List.{find}
-use Rattle.std.specs.List.Sorted.{IsStrictlyIncreasing, IsBinarySearchResult}
-use Rattle.std.specs.Option.{option_map, unwrap_or}
-use Rattle.std.proofs.lemmas.Bool.{cases_lt, cond-false}
-use Rattle.std.proofs.lemmas.List.Sorted.{searched}
+use Rattle.std.proofs.lemmas.{Bool.cases_lt, Bool.cond-false, List.Sorted.searched}
 use Rattle.std.proofs.lemmas.Option.{slice_get_within, slice_get-get_or, get_or_from_slice_get}
+use Rattle.std.specs.{List.find, List.Sorted.IsStrictlyIncreasing, List.Sorted.IsBinarySearchResult, Option.option_map, Option.unwrap_or}
 use Rattle.list_laws.proofs.Members.{mapped_at}
-use Rattle.image_defs.specs.declared.image.LinkIn.{LinkIn}
-use Rattle.image_defs.specs.Places.{Stands, in_slots, sender_in}
+use Rattle.image_defs.specs.{declared.image.LinkIn.LinkIn, Places.Stands, Places.in_slots, Places.sender_in}
 use Rattle.image_defs.proofs.lemmas.PlaceLemmas.{rises, sender_found}
 
 -- numbers that rise don't fall from one place to a later one

@@ -1,11 +1,9 @@
 -- The slots of the ports.
 use Rattle.std.proofs.Common.{◌≡◌, ℕ, ◌+◌, ◌<◌, get_or, List, [], ◌∷◌, ◌++◌, length, Some, slice_get, sym, subst, refl, arith}
-use Rattle.std.proofs.lemmas.List.{length_push}
-use Rattle.std.proofs.lemmas.Option.{slice_get_within, slice_get-get_or}
+use Rattle.std.proofs.lemmas.{List.length_push, Option.slice_get_within, Option.slice_get-get_or}
 use Rattle.list_laws.proofs.Places.{one_there, indexed}
 use Rattle.image_defs.specs.declared.image.PortImage.{PortImage}
-use Rattle.image_check.specs.declared.shapes.Shape.{Shape}
-use Rattle.image_check.specs.code.Shapes.{IsShapeOf, AreShapesOf}
+use Rattle.image_check.specs.{declared.shapes.Shape.Shape, code.Shapes.IsShapeOf, code.Shapes.AreShapesOf}
 use Rattle.image_check.proofs.lemmas.EachLemmas.{each_pushed}
 
 -- the slots of the first n ports

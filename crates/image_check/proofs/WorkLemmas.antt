@@ -1,15 +1,9 @@
 -- What a port does names only what is there.
 use Rattle.std.proofs.Common.{◌≡◌, ◌↔◌, IsTrue, Bool, false, ℕ, ◌<◌, ◌≤◌, List, length, sym, subst}
 use Rattle.limits.specs.declared.TheConstants.{MAX_ADDRESS_BITS, MAX_WORD_BITS}
-use Rattle.image_defs.specs.declared.image.Source.{Source}
-use Rattle.image_defs.specs.declared.image.BlockWork.{BlockWork}
-use Rattle.image_defs.specs.declared.image.OutBit.{OutBit}
-use Rattle.image_defs.specs.declared.image.InColumn.{InColumn}
-use Rattle.image_defs.specs.declared.image.Work.{Work}
-use Rattle.image_defs.specs.declared.image.Work.TheVariants.{Array, Host}
-use Rattle.image_defs.specs.declared.image.PortImage.{PortImage}
-use Rattle.image_defs.specs.Places.{Each}
 use Rattle.image_defs.specs.WellFormed.{IsPast, IsPresent, IsBlock, IsBit, IsWork}
+use Rattle.image_defs.specs.declared.image.{Source.Source, BlockWork.BlockWork, OutBit.OutBit, InColumn.InColumn, Work.Work}
+use Rattle.image_defs.specs.{declared.image.Work.TheVariants.Array, declared.image.Work.TheVariants.Host, declared.image.PortImage.PortImage, Places.Each}
 
 -- a memory whose address or word takes what it may not
 pub no_address : (port : PortImage) (block : BlockWork) (address : List Source) → address ≡ block.address → IsTrue false ↔ Each (IsPast port) address → IsTrue false ↔ IsBlock port block

@@ -2,12 +2,10 @@
 use Rattle.std.specs.Prelude.{◌≡◌, ◌≢◌, ◌⊎◌, ℕ, Result, Ok, Err}
 use Rattle.net_defs.specs.declared.timing.Timing.{Timing}
 use Rattle.node_defs.specs.declared.items.NodeNet.{NodeNet}
-use Rattle.image_defs.specs.WellFormed.{IsWellFormed}
-use Rattle.image_defs.specs.Matches.{Matches}
-use Rattle.image_defs.specs.declared.file.ImageFile.{ImageFile}
+use Rattle.image_defs.specs.Claimed.{lists_of, HasTiming, PlaceMatches, IsFirstPlace, IsFirstColumn}
+use Rattle.image_defs.specs.{WellFormed.IsWellFormed, Matches.Matches, declared.file.ImageFile.ImageFile}
 use Rattle.image_check.specs.declared.check.CheckNo.{CheckNo}
 use Rattle.image_check.specs.declared.check.CheckNo.TheVariants as no
-use Rattle.image_defs.specs.Claimed.{lists_of, HasTiming, PlaceMatches, IsFirstPlace, IsFirstColumn}
 
 -- each answer by what it says of the image; the cases but that of memory exclude one another
 abbrev pub Says : ImageFile → NodeNet → Timing → Result (Unit {0}) CheckNo → Type 0

@@ -1,11 +1,9 @@
 //! The check of an image that comes from elsewhere.
 
 ghost use Rattle.std.specs.Prelude.{ℕ};
-ghost use Rattle.image_defs.specs.WellFormed.{IsWellFormed};
-ghost use Rattle.image_defs.specs.Matches.{Matches};
-ghost use Rattle.image_check.specs.Check.{Says, IsOkOrMemory};
 ghost use Rattle.image_defs.specs.Claimed.{lists_of, HasClaims, HasTiming, PlaceMatches};
-ghost use Rattle.image_check.specs.code.Shapes.{AreShapesOf};
+ghost use Rattle.image_defs.specs.{WellFormed.IsWellFormed, Matches.Matches};
+ghost use Rattle.image_check.specs.{Check.Says, Check.IsOkOrMemory, code.Shapes.AreShapesOf};
 
 use crate::places::{first_column, first_place};
 use crate::ports::is_well_formed;

@@ -2,13 +2,9 @@
 
 ghost use Rattle.std.specs.Prelude.{◌≡◌, ◌↔◌, IsTrue, Some, length, slice_get};
 ghost use Rattle.std.specs.List.Sorted.{IsStrictlyIncreasing};
-ghost use Rattle.node_defs.specs.declared.items.Feed.TheVariants.{From, Fixed};
-ghost use Rattle.image_defs.specs.Places.{sender_in};
-ghost use Rattle.image_defs.specs.Matches.{IsClaim, CarryAll};
-ghost use Rattle.image_defs.specs.Matches.{is_last as is_of_last};
-ghost use Rattle.image_defs.specs.Claimed.{lists_of};
+ghost use Rattle.node_defs.specs.declared.items.{Feed.TheVariants.From, Feed.TheVariants.Fixed, Tag.TheVariants.Last};
+ghost use Rattle.image_defs.specs.{Places.sender_in, Matches.IsClaim, Matches.CarryAll, Matches.is_last as is_of_last, Claimed.lists_of};
 ghost use Rattle.image_check.specs.code.OnePorts.{IsOnePort, ClaimedIn, ClaimsAt, CarriesAt};
-ghost use Rattle.node_defs.specs.declared.items.Tag.TheVariants.{Last};
 
 use crate::search::{place_of, sender_of};
 use crate::shapes::Shape;

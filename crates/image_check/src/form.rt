@@ -1,11 +1,9 @@
 //! The numbers of an image, its host, and the order of its slots.
 
-ghost use Rattle.std.specs.Prelude.{◌↔◌, ◌<◌, IsTrue};
-ghost use Rattle.std.specs.List.Sorted.{IsStrictlyIncreasing};
-ghost use Rattle.image_defs.specs.Places.{Each};
-ghost use Rattle.image_defs.specs.WellFormed.{IsHost};
-ghost use Rattle.image_check.specs.code.Forms.{HasNumbers, IsHostLast};
+ghost use Rattle.std.specs.{Prelude.◌↔◌, Prelude.◌<◌, Prelude.IsTrue, List.Sorted.IsStrictlyIncreasing};
+ghost use Rattle.image_defs.specs.{Places.Each, WellFormed.IsHost};
 ghost use Rattle.image_check.specs.code.Shapes.{IsShapeOf, AreShapesOf, IsRising, AreRising};
+ghost use Rattle.image_check.specs.code.Forms.{HasNumbers, IsHostLast};
 
 use crate::search::rises;
 use crate::shapes::Shape;

@@ -2,9 +2,8 @@
 
 ghost use Rattle.net_defs.specs.declared.timing.Timing.{Timing};
 ghost use Rattle.node_defs.specs.declared.items.NodeNet.{NodeNet};
-ghost use Rattle.image_defs.specs.declared.file.ImageFile.{ImageFile};
+ghost use Rattle.image_defs.specs.{declared.file.ImageFile.ImageFile, Claimed.HasClaims};
 ghost use Rattle.image_check.specs.Check.{HasAnswer, HasOneAnswer};
-ghost use Rattle.image_defs.specs.Claimed.{HasClaims};
 
 /// A law: each image with a claim for each of its places is well formed and matches the items, or the check
 /// has a refusal of it that is no want of memory; and of these answers it has exactly one. It does nothing.

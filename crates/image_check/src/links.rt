@@ -2,11 +2,9 @@
 
 ghost use Rattle.std.specs.Prelude.{◌≡◌, ◌↔◌, ◌<◌, IsTrue, Some, length, slice_get};
 ghost use Rattle.std.specs.List.Sorted.{IsStrictlyIncreasing};
-ghost use Rattle.image_defs.specs.declared.image.LinkOut.{LinkOut};
-ghost use Rattle.image_defs.specs.Places.{Each, Stands};
-ghost use Rattle.image_defs.specs.WellFormed.{IsLinkIn, IsLinkOut};
-ghost use Rattle.image_check.specs.code.Links.{SendsTo, IsReader, link_in};
+ghost use Rattle.image_defs.specs.{declared.image.LinkOut.LinkOut, Places.Each, Places.Stands, WellFormed.IsLinkIn, WellFormed.IsLinkOut};
 ghost use Rattle.image_check.specs.code.Shapes.{IsShapeOf, AreShapesOf, IsRising, AreRising};
+ghost use Rattle.image_check.specs.code.Links.{SendsTo, IsReader, link_in};
 
 use crate::search::{place_of, stands};
 use crate::shapes::Shape;

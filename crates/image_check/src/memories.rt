@@ -2,12 +2,8 @@
 //! compared last is kept in mind, and not compared again for each of its bits.
 
 ghost use Rattle.std.specs.Prelude.{◌≡◌, ◌↔◌, IsTrue, IfSome, Some};
-ghost use Rattle.image_defs.specs.Places.{blocks_of};
-ghost use Rattle.image_defs.specs.Matches.{Implements, BitImplements, MemoryImplements};
-ghost use Rattle.image_defs.specs.Claimed.{lists_of};
-ghost use Rattle.image_check.specs.code.Differences.{AsClaimed};
-ghost use Rattle.image_check.specs.code.Memories.{IsMemory, IsMemoryAt, AreSameMemories};
-ghost use Rattle.image_check.specs.code.OnePorts.{IsOnePort};
+ghost use Rattle.image_defs.specs.{Places.blocks_of, Matches.Implements, Matches.BitImplements, Matches.MemoryImplements, Claimed.lists_of};
+ghost use Rattle.image_check.specs.code.{Differences.AsClaimed, Memories.IsMemory, Memories.IsMemoryAt, Memories.AreSameMemories, OnePorts.IsOnePort};
 
 use crate::claims::{OnePort, carries_item, carry_all};
 use image_defs::{BlockWork, OutBit, Work};

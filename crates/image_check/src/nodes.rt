@@ -1,15 +1,12 @@
 //! Whether what stands at a place is as the item that it claims.
 
 ghost use Rattle.std.specs.Prelude.{◌≡◌, ◌↔◌, IsTrue, IfSome, List as Items};
-ghost use Rattle.func_table.specs.declared.table.Table.{Table};
-ghost use Rattle.node_defs.specs.declared.items.Item.TheVariants.{Node, Latch};
-ghost use Rattle.node_defs.specs.declared.items.NodeNet.{NodeNet};
-ghost use Rattle.func_table.specs.Entries.{AreAlike};
-ghost use Rattle.image_defs.specs.Places.{blocks_of};
+ghost use Rattle.func_table.specs.{declared.table.Table.Table, Entries.AreAlike};
+ghost use Rattle.node_defs.specs.declared.items.{Item.TheVariants.Node, Item.TheVariants.Latch, NodeNet.NodeNet};
 ghost use Rattle.image_defs.specs.Matches.{Implements, ImplementsClaim, TaskImplements, InputImplements};
-ghost use Rattle.image_defs.specs.Claimed.{lists_of};
-ghost use Rattle.image_check.specs.code.Memories.{AreSameMemories};
+ghost use Rattle.image_defs.specs.{Places.blocks_of, Claimed.lists_of};
 ghost use Rattle.image_check.specs.code.OnePorts.{IsOnePort, IsLike, AreSame, CarryFour};
+ghost use Rattle.image_check.specs.code.Memories.{AreSameMemories};
 
 use crate::claims::{OnePort, carries, carries_item};
 use crate::memories::{Pair, bit_implements};

@@ -2,9 +2,8 @@
 
 ghost use Rattle.std.specs.Prelude.{◌≡◌, ◌<◌, ◌≤◌, ℕ, MatchOption, length};
 ghost use Rattle.limits.specs.declared.TheConstants.{MAX_PORTS};
-ghost use Rattle.image_defs.specs.Places.{IsPort, item_slots};
-ghost use Rattle.image_defs.specs.Matches.{claims_of};
 ghost use Rattle.image_defs.specs.Claimed.{lists_of, HasClaims, PlaceMatches, ColumnMatches, IsFirstPlace, IsFirstColumn};
+ghost use Rattle.image_defs.specs.{Places.IsPort, Places.item_slots, Matches.claims_of};
 ghost use Rattle.image_check.specs.code.Differences.{AllAsClaimed, IsFirstOther, IsFirstSlot, PrintsAt, IsFirstUnprinted, PrintsAsMany};
 ghost use Rattle.image_check.specs.code.OnePorts.{IsOnePort, AreLaidOut};
 

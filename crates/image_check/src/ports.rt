@@ -2,9 +2,7 @@
 
 ghost use Rattle.std.specs.Prelude.{◌≡◌, ◌↔◌, ◌≤◌, ℕ, IsTrue, length};
 ghost use Rattle.limits.specs.declared.TheConstants.{MAX_PORTS};
-ghost use Rattle.image_defs.specs.declared.image.PortImage.{PortImage};
-ghost use Rattle.image_defs.specs.Places.{IsPort};
-ghost use Rattle.image_defs.specs.WellFormed.{IsPortImage, IsWellFormed};
+ghost use Rattle.image_defs.specs.{declared.image.PortImage.PortImage, Places.IsPort, WellFormed.IsPortImage, WellFormed.IsWellFormed};
 ghost use Rattle.image_check.specs.code.Shapes.{IsShapeOf, AreShapesOf, IsRising, AreRising};
 
 use crate::form::{all_below, all_rise, has_numbers, is_host_last};

@@ -1,8 +1,8 @@
 //! Sources of a port: what they name is there, and of the turn that it has to be.
 
 ghost use Rattle.std.specs.Prelude.{◌≡◌, ◌↔◌, IsTrue};
-ghost use Rattle.image_defs.specs.Places.{Each};
 ghost use Rattle.image_defs.specs.WellFormed.{IsThere, IsBefore, IsOfLast, IsOperand, IsPast, IsPresent};
+ghost use Rattle.image_defs.specs.Places.{Each};
 ghost use Rattle.image_check.specs.code.Shapes.{IsShapeOf, IsRising};
 
 use crate::search::stands;

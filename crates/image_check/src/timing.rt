@@ -1,10 +1,8 @@
 //! Whether an image is of the timing and prints as much as is asked.
 
 ghost use Rattle.std.specs.Prelude.{◌≡◌, ◌↔◌, ◌≤◌, IsTrue, count_by, length};
-ghost use Rattle.image_defs.specs.Places.{printed_of};
-ghost use Rattle.node_defs.specs.WellFormed.{is_input};
-ghost use Rattle.node_defs.specs.WellFormed.{column_count as columns_of};
-ghost use Rattle.image_defs.specs.Claimed.{HasTiming};
+ghost use Rattle.image_defs.specs.{Places.printed_of, Claimed.HasTiming};
+ghost use Rattle.node_defs.specs.WellFormed.{is_input, column_count as columns_of};
 ghost use Rattle.image_check.specs.code.Differences.{PrintsAsMany};
 
 use image_defs::{Image, Source, Work};

@@ -2,8 +2,8 @@
 
 ghost use Rattle.std.specs.Prelude.{◌≡◌, ◌↔◌, ◌<◌, ◌≤◌, IsTrue, length};
 ghost use Rattle.limits.specs.declared.TheConstants.{MAX_ADDRESS_BITS, MAX_WORD_BITS};
-ghost use Rattle.image_defs.specs.Places.{Each};
 ghost use Rattle.image_defs.specs.WellFormed.{IsTask, IsBlock, IsBit, IsWork, IsOperand, IsPast, IsPresent};
+ghost use Rattle.image_defs.specs.Places.{Each};
 ghost use Rattle.image_check.specs.code.Shapes.{IsShapeOf, IsRising};
 
 use crate::shapes::Shape;

@@ -7,19 +7,13 @@ use Rattle.net_defs.specs.declared.timing.Timing.{Timing}
 use Rattle.net_defs.specs.declared.timing.Init.TheVariants as init
 use Rattle.net_defs.specs.declared.timing.Mode.TheVariants as mode
 use Rattle.func_table.specs.declared.table.Table.{Table}
-use Rattle.node_defs.specs.declared.items.Tag.TheVariants.{This, Last}
-use Rattle.node_defs.specs.declared.items.Feed.TheVariants.{From, Fixed}
-use Rattle.node_defs.specs.declared.items.Item.{Item}
 use Rattle.node_defs.specs.declared.items.Item.TheVariants.{Input, BlockBit, Node, Latch}
-use Rattle.node_defs.specs.declared.items.NodeBlock.{NodeBlock}
-use Rattle.node_defs.specs.declared.items.NodeNet.{NodeNet}
-use Rattle.node_defs.specs.Items.{own}
-use Rattle.image_defs.specs.declared.image.Source.{Source}
-use Rattle.image_defs.specs.declared.image.Source.TheVariants.{Own, Got}
-use Rattle.image_defs.specs.declared.image.PortImage.{PortImage}
+use Rattle.node_defs.specs.declared.items.{Tag.TheVariants.This, Tag.TheVariants.Last, Feed.TheVariants.From, Feed.TheVariants.Fixed, Item.Item}
+use Rattle.node_defs.specs.{declared.items.NodeBlock.NodeBlock, declared.items.NodeNet.NodeNet, Items.own}
 use Rattle.image_defs.specs.Places.{IsPort, item_slots, printed_of, sender_in}
-use Rattle.image_defs.proofs.Example.{image, logic_port, array_port, host_port, looks, holds, feeds, memory, out_bit}
 use Rattle.image_defs.specs.Matches.{IsClaim, ClaimsIn, Carries, CarryAll, MemoryImplements, ImplementsClaim, PrintsItems, Matches, claims_of}
+use Rattle.image_defs.specs.declared.image.{Source.Source, Source.TheVariants.Own, Source.TheVariants.Got, PortImage.PortImage}
+use Rattle.image_defs.proofs.Example.{image, logic_port, array_port, host_port, looks, holds, feeds, memory, out_bit}
 
 abbrev timing : Timing
 timing = record { mode = mode.Rank; units = 1; init = init.Zero; listed = [] }

@@ -1,17 +1,10 @@
 -- Where the places and the columns of an image match the items that they claim.
 use Rattle.std.specs.Prelude.{◌≡◌, ℕ, ◌<◌, ◌⊎◌, List, length, map, Some, slice_get}
 use Rattle.net_defs.specs.declared.timing.Timing.{Timing}
-use Rattle.node_defs.specs.declared.items.Tag.TheVariants.{This}
-use Rattle.node_defs.specs.declared.items.Feed.TheVariants.{From}
-use Rattle.node_defs.specs.declared.items.NodeNet.{NodeNet}
-use Rattle.node_defs.specs.WellFormed.{column_count}
-use Rattle.image_defs.specs.declared.image.Source.{Source}
-use Rattle.image_defs.specs.declared.image.PortImage.{PortImage}
-use Rattle.image_defs.specs.declared.image.Image.{Image}
+use Rattle.node_defs.specs.{declared.items.Tag.TheVariants.This, declared.items.Feed.TheVariants.From, declared.items.NodeNet.NodeNet, WellFormed.column_count}
 use Rattle.image_defs.specs.Places.{IsPort, IsItemIn, item_slots, printed_of, host_of}
-use Rattle.image_defs.specs.Matches.{IsClaim, ImplementsClaim, Carries}
-use Rattle.image_defs.specs.declared.file.PortClaims.{PortClaims}
-use Rattle.image_defs.specs.declared.file.Claims.{Claims}
+use Rattle.image_defs.specs.declared.image.{Source.Source, PortImage.PortImage, Image.Image}
+use Rattle.image_defs.specs.{Matches.IsClaim, Matches.ImplementsClaim, Matches.Carries, declared.file.PortClaims.PortClaims, declared.file.Claims.Claims}
 use Rattle.image_defs.specs.declared.file.ImageFile.{ImageFile}
 
 -- the claims of each port

@@ -1,19 +1,12 @@
 -- The value of an image. It meets the equations of `Steps`. It is made turn by turn, and in a turn slot by
 -- slot; whoever uses it cites the equations, which are a law, and never how it is made.
 use Rattle.std.specs.Prelude.{ℕ, zero, suc, ◌*◌, ◌==◌, if◌then◌else◌, List, [], length, Option, Some, None, slice_get, unwrap_or}
-use Rattle.std.specs.List.{position_or_len}
-use Rattle.std.specs.Option.{option_map}
-use Rattle.logic_four.specs.declared.V4.{V4}
-use Rattle.logic_four.specs.declared.V4.TheVariants.{Undef}
-use Rattle.logic_four.specs.Memory.{initial_words}
-use Rattle.net_defs.specs.declared.stimulus.Stimulus.{Stimulus}
-use Rattle.net_defs.specs.Time.{initial_value}
-use Rattle.image_defs.specs.declared.image.BlockWork.{BlockWork}
-use Rattle.image_defs.specs.declared.image.LinkIn.{LinkIn}
-use Rattle.image_defs.specs.declared.image.PortImage.{PortImage}
-use Rattle.image_defs.specs.declared.image.Image.{Image}
+use Rattle.std.specs.{List.position_or_len, Option.option_map}
+use Rattle.logic_four.specs.{declared.V4.V4, declared.V4.TheVariants.Undef, Memory.initial_words}
+use Rattle.net_defs.specs.{declared.stimulus.Stimulus.Stimulus, Time.initial_value}
 use Rattle.image_defs.specs.Places.{item_slots, blocks_of, printed_of, host_of}
 use Rattle.image_defs.specs.Steps.{Frame, Grid, value_of_member, item_value, source_value, block_words_after}
+use Rattle.image_defs.specs.declared.image.{BlockWork.BlockWork, LinkIn.LinkIn, PortImage.PortImage, Image.Image}
 
 module _ (image : Image) (stimulus : Stimulus) where
   -- the value in a slot of a port, by the values of the slots before

@@ -2,30 +2,15 @@
 -- carry what that item's operands name.
 use Rattle.std.specs.Prelude.{◌≡◌, ℕ, Bool, true, false, List, [], length, Some, slice_get, slice_index_or}
 use Rattle.net_defs.specs.declared.timing.Timing.{Timing}
-use Rattle.func_table.specs.declared.table.Table.{Table}
-use Rattle.func_table.specs.Entries.{AreAlike}
-use Rattle.node_defs.specs.declared.items.Tag.{Tag}
-use Rattle.node_defs.specs.declared.items.Tag.TheVariants.{This, Last}
-use Rattle.node_defs.specs.declared.items.Feed.{Feed}
-use Rattle.node_defs.specs.declared.items.Feed.TheVariants.{From, Fixed}
-use Rattle.node_defs.specs.declared.items.Item.{Item}
+use Rattle.func_table.specs.{declared.table.Table.Table, Entries.AreAlike}
+use Rattle.node_defs.specs.declared.items.{Tag.Tag, Tag.TheVariants.This, Tag.TheVariants.Last, Feed.Feed, Feed.TheVariants.From, Feed.TheVariants.Fixed}
+use Rattle.node_defs.specs.{declared.items.Item.Item, declared.items.NodeBlock.NodeBlock, declared.items.NodeNet.NodeNet, WellFormed.column_count}
 use Rattle.node_defs.specs.declared.items.Item.TheVariants as item
-use Rattle.node_defs.specs.declared.items.NodeBlock.{NodeBlock}
-use Rattle.node_defs.specs.declared.items.NodeNet.{NodeNet}
-use Rattle.node_defs.specs.WellFormed.{column_count}
-use Rattle.image_defs.specs.declared.image.Source.{Source}
-use Rattle.image_defs.specs.declared.image.Source.TheVariants.{Own, Got, Const}
-use Rattle.image_defs.specs.declared.image.Task.{Task}
-use Rattle.image_defs.specs.declared.image.Task.TheVariants.{Eval, Hold}
-use Rattle.image_defs.specs.declared.image.BlockWork.{BlockWork}
-use Rattle.image_defs.specs.declared.image.OutBit.{OutBit}
-use Rattle.image_defs.specs.declared.image.InColumn.{InColumn}
-use Rattle.image_defs.specs.declared.image.Work.{Work}
-use Rattle.image_defs.specs.declared.image.Work.TheVariants.{Logic, Array, Host}
-use Rattle.image_defs.specs.declared.image.LinkIn.{LinkIn}
-use Rattle.image_defs.specs.declared.image.PortImage.{PortImage}
-use Rattle.image_defs.specs.declared.image.Image.{Image}
 use Rattle.image_defs.specs.Places.{IsPort, IsItemIn, item_slots, printed_of, sender_in, host_of}
+use Rattle.image_defs.specs.declared.image.{Source.Source, Source.TheVariants.Own, Source.TheVariants.Got, Source.TheVariants.Const, Task.Task}
+use Rattle.image_defs.specs.declared.image.{Task.TheVariants.Eval, Task.TheVariants.Hold, BlockWork.BlockWork, OutBit.OutBit, InColumn.InColumn, Work.Work}
+use Rattle.image_defs.specs.declared.image.{Work.TheVariants.Logic, Work.TheVariants.Array, Work.TheVariants.Host, LinkIn.LinkIn, PortImage.PortImage}
+use Rattle.image_defs.specs.declared.image.Image.{Image}
 
 -- the claims of port p: a list for each port, with one item for each of the port's items in their order
 abbrev pub claims_of : List (List ℕ) → ℕ → List ℕ

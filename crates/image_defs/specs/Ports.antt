@@ -2,14 +2,9 @@
 -- has executed and received in it. Nothing here says what a port keeps.
 use Rattle.std.specs.Prelude.{◌≡◌, ℕ, ◌+◌, ◌<◌, ◌≤◌, Bool, true, false, length, Some, slice_get}
 use Rattle.logic_four.specs.declared.V4.{V4}
-use Rattle.net_defs.specs.declared.stimulus.Stimulus.{Stimulus}
-use Rattle.net_defs.specs.Time.{turn_count}
-use Rattle.image_defs.specs.declared.image.LinkIn.{LinkIn}
-use Rattle.image_defs.specs.declared.image.PortImage.{PortImage}
-use Rattle.image_defs.specs.declared.image.Image.{Image}
-use Rattle.image_defs.specs.Places.{IsPort, IsItemIn, item_slots}
-use Rattle.image_defs.specs.Steps.{timing_of}
-use Rattle.image_defs.specs.Frames.{image_value}
+use Rattle.net_defs.specs.{declared.stimulus.Stimulus.Stimulus, Time.turn_count}
+use Rattle.image_defs.specs.declared.image.{LinkIn.LinkIn, PortImage.PortImage, Image.Image}
+use Rattle.image_defs.specs.{Places.IsPort, Places.IsItemIn, Places.item_slots, Steps.timing_of, Frames.image_value}
 
 -- a port in its turn, counted from 1: whether the turn has begun, how many of the port's items it has
 -- executed in it, and how many values it has received in it, both in slot order. A plain port runs one stimulus,

@@ -2,12 +2,9 @@
 -- what is shown are the values of the printed items.
 use Rattle.std.specs.Prelude.{◌≡◌, ℕ, ◌*◌, List, Some, slice_get}
 use Rattle.logic_four.specs.Values.{value_at}
-use Rattle.net_defs.specs.declared.stimulus.Stimulus.{Stimulus}
-use Rattle.net_defs.specs.Steps.{State}
+use Rattle.net_defs.specs.{declared.stimulus.Stimulus.Stimulus, Steps.State}
 use Rattle.node_defs.specs.declared.items.NodeNet.{NodeNet}
-use Rattle.image_defs.specs.declared.image.Image.{Image}
-use Rattle.image_defs.specs.Frames.{image_value, shown}
-use Rattle.image_defs.specs.Matches.{ClaimsIn}
+use Rattle.image_defs.specs.{declared.image.Image.Image, Frames.image_value, Frames.shown, Matches.ClaimsIn}
 
 -- these are the values of the items at each turn, from turn 0 on
 pub record ShowsItems (image : Image) (claims : List (List ℕ)) (nodes : NodeNet) (stimulus : Stimulus) (values : List State) : Type 0 where

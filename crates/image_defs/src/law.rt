@@ -1,16 +1,8 @@
 //! Laws of images: functions that do nothing, whose clauses hold of all images and items.
 
-ghost use Rattle.image_defs.specs.Frames.{frame};
-ghost use Rattle.image_defs.specs.Matches.{Matches};
-ghost use Rattle.image_defs.specs.Shows.{ShowsItems};
-ghost use Rattle.image_defs.specs.Steps.{AreImageValues};
-ghost use Rattle.image_defs.specs.WellFormed.{IsWellFormed};
-ghost use Rattle.image_defs.specs.declared.image.Image.{Image};
-ghost use Rattle.net_defs.specs.Steps.{State};
-ghost use Rattle.net_defs.specs.declared.stimulus.Stimulus.{Stimulus};
-ghost use Rattle.net_defs.specs.declared.timing.Timing.{Timing};
-ghost use Rattle.node_defs.specs.Values.{AreItemValues};
-ghost use Rattle.node_defs.specs.declared.items.NodeNet.{NodeNet};
+ghost use Rattle.image_defs.specs.{Frames.frame, Matches.Matches, Shows.ShowsItems, Steps.AreImageValues, WellFormed.IsWellFormed, declared.image.Image.Image};
+ghost use Rattle.net_defs.specs.{Steps.State, declared.stimulus.Stimulus.Stimulus, declared.timing.Timing.Timing};
+ghost use Rattle.node_defs.specs.{Values.AreItemValues, declared.items.NodeNet.NodeNet};
 ghost use Rattle.std.specs.Prelude.{ℕ, List as Items};
 
 /// A law: the value of a well-formed image meets the equations of its items and memories at every

@@ -1,30 +1,20 @@
 -- The text of a file in range reads as it, and so has one file and no fault.
 use Rattle.std.proofs.Common.{◌≡◌, ◌⊎◌, ℕ, ◌+◌, ◌≤◌, ◌<◌, true, List, [], ◌∷◌, ◌++◌, length, map, Some, None, Result, Ok, Err, MatchResult, refl, sym, ap, ap₂, ◌∙◌, subst, inl, inr, arith, cond, append-nil, append_assoc, length-append}
+use Rattle.std.proofs.lemmas.List.{Elements.All-head, Elements.All-tail, Sums.sum_by-append}
 use Rattle.std.specs.Result.{result_err}
-use Rattle.std.proofs.lemmas.List.Elements.{All-head, All-tail}
-use Rattle.std.proofs.lemmas.List.Sums.{sum_by-append}
 use Rattle.limits.specs.declared.TheConstants.{MAX_ARRAY}
 use Rattle.text_lines.specs.Answers.{Answers, AnswersAs}
-use Rattle.image_defs.specs.declared.image.Work.{Work}
-use Rattle.image_defs.specs.declared.image.Work.TheVariants.{Logic, Array, Host}
-use Rattle.image_defs.specs.declared.image.PortImage.{PortImage}
-use Rattle.image_defs.specs.declared.file.PortClaims.{PortClaims}
-use Rattle.image_defs.specs.declared.file.ImageFile.{ImageFile}
-use Rattle.image_lines.specs.declared.line.Line.{Line}
+use Rattle.image_defs.specs.declared.image.{Work.Work, Work.TheVariants.Logic, Work.TheVariants.Array, Work.TheVariants.Host, PortImage.PortImage}
+use Rattle.image_defs.specs.declared.file.{PortClaims.PortClaims, ImageFile.ImageFile}
+use Rattle.image_lines.specs.{declared.line.Line.Line, Forms.is_within, Ranges.IsInRange}
 use Rattle.image_lines.specs.declared.line.Line.TheVariants as line
-use Rattle.image_lines.specs.Forms.{is_within}
-use Rattle.image_lines.specs.Ranges.{IsInRange}
-use Rattle.image_file.specs.declared.refusal.ImageNo.{ImageNo}
-use Rattle.image_file.specs.declared.draft.Draft.{Draft}
 use Rattle.image_file.specs.declared.draft.Draft.TheVariants.{Blank, Titled, Sized, Ended}
-use Rattle.image_file.specs.Drafts.{body_holds, opened}
 use Rattle.image_file.specs.Files.{all_port_lines, kind_of, sizes_of, file_lines, image_text, work_lines}
 use Rattle.image_file.specs.Ranges.{bits_of, is_array, IsInRanges, Reads}
 use Rattle.image_file.specs.Reading.{pieces_of, read_from, file_read, first_fault}
-use Rattle.image_file.proofs.DraftLemmas.{AreClosed, arrays_in}
-use Rattle.image_file.proofs.FoundLemmas.{reads_from_read}
+use Rattle.image_file.specs.{declared.refusal.ImageNo.ImageNo, declared.draft.Draft.Draft, Drafts.body_holds, Drafts.opened}
 use Rattle.image_file.proofs.LeadLemmas.{Step, Leads, leads_on, leads_read, inside, port_leads}
-use Rattle.image_file.proofs.RangeLemmas.{closed_from}
+use Rattle.image_file.proofs.{DraftLemmas.AreClosed, DraftLemmas.arrays_in, FoundLemmas.reads_from_read, RangeLemmas.closed_from}
 
 -- a port with all its lines, behind others
 abbrev full : ImageFile → List PortImage → List PortClaims → PortImage → PortClaims → Draft

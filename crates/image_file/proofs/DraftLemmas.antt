@@ -1,27 +1,18 @@
 -- What a line adds to a text so far, a port and then the whole.
 use Rattle.std.proofs.Common.{◌≡◌, ℕ, ◌+◌, ◌≤◌, ◌<◌, ◌==◌, ◌-◌, ◌&&◌, Bool, true, List, [], ◌∷◌, ◌++◌, length, map, refl, sym, ap, ◌∙◌, arith, cond, append-nil, append_assoc, length-append}
+use Rattle.std.proofs.lemmas.{List.Sums.sum_by-append, Bool.and_parts}
 use Rattle.std.specs.List.{count_by}
-use Rattle.std.proofs.lemmas.List.Sums.{sum_by-append}
-use Rattle.std.proofs.lemmas.Bool.{and_parts}
 use Rattle.limits.specs.declared.TheConstants.{MAX_FUNCTIONS, MAX_ARRAY_BITS, MAX_ARRAY}
-use Rattle.image_defs.specs.declared.image.Work.{Work}
-use Rattle.image_defs.specs.declared.image.Work.TheVariants.{Logic}
-use Rattle.image_defs.specs.declared.image.PortImage.{PortImage}
-use Rattle.image_defs.specs.Places.{item_slots}
+use Rattle.image_defs.specs.{declared.image.Work.Work, declared.image.Work.TheVariants.Logic, declared.image.PortImage.PortImage, Places.item_slots}
 use Rattle.image_defs.specs.declared.file.PortClaims.{PortClaims}
-use Rattle.image_lines.specs.declared.line.PortKind.{PortKind}
+use Rattle.image_lines.specs.{declared.line.PortKind.PortKind, declared.line.Sizes.Sizes, declared.line.Line.Line, Forms.is_within}
 use Rattle.image_lines.specs.declared.line.PortKind.TheVariants as kinds
-use Rattle.image_lines.specs.declared.line.Sizes.{Sizes}
-use Rattle.image_lines.specs.declared.line.Line.{Line}
 use Rattle.image_lines.specs.declared.line.Line.TheVariants as line
-use Rattle.image_lines.specs.Forms.{is_within}
-use Rattle.image_file.specs.declared.draft.OpenPort.{OpenPort}
-use Rattle.image_file.specs.declared.draft.Body.{Body}
-use Rattle.image_file.specs.declared.draft.Draft.{Draft}
 use Rattle.image_file.specs.declared.draft.Draft.TheVariants.{Blank, Titled, Sized, Within, Ended}
 use Rattle.image_file.specs.Files.{work_lines, port_lines, all_port_lines, kind_of, file_lines, sizes_of}
-use Rattle.image_file.specs.Ranges.{is_array, tables_of, bits_of}
 use Rattle.image_file.specs.Drafts.{work_allows, port_allows, body_allows, may_stand, work_holds, body_holds, has_room, array_count, work_with, items_with, bits_with, open_with, body_with, draft_with, opened, work_begun, ports_of, claims_of, file_of}
+use Rattle.image_file.specs.declared.draft.{OpenPort.OpenPort, Body.Body, Draft.Draft}
+use Rattle.image_file.specs.Ranges.{is_array, tables_of, bits_of}
 use Rattle.image_file.proofs.WorkLemmas.{nil_of, pushed, ports_more, IsHeld, work_step}
 
 -- ---- a port

@@ -1,26 +1,16 @@
 -- What is read is what the text is the text of.
 use Rattle.std.proofs.Common.{◌≡◌, ℕ, suc, ◌&&◌, Bool, true, List, [], ◌∷◌, ◌++◌, Result, Ok, Err, refl, sym, ap, ◌∙◌, subst, All, append-nil, append_assoc, if◌then◌else◌}
-use Rattle.std.specs.List.{flat_map, join_with_byte}
-use Rattle.std.proofs.lemmas.Grind.{flat_map-append}
-use Rattle.std.proofs.lemmas.List.Elements.{All-nil, All-cons, All-append}
+use Rattle.std.proofs.lemmas.{Grind.flat_map-append, List.Elements.All-nil, List.Elements.All-cons, List.Elements.All-append}
 use Rattle.std.proofs.lemmas.List.Splits.{join_with_byte-slice_split}
+use Rattle.std.specs.List.{flat_map, join_with_byte}
 use Rattle.image_defs.specs.declared.file.ImageFile.{ImageFile}
-use Rattle.image_lines.specs.declared.line.Line.{Line}
-use Rattle.image_lines.specs.declared.line.LineNo.{LineNo}
-use Rattle.image_lines.specs.Forms.{line_read}
-use Rattle.image_lines.specs.Ranges.{IsInRange}
-use Rattle.image_lines.specs.Words.{line_text, line_bytes}
+use Rattle.image_lines.specs.{declared.line.Line.Line, declared.line.LineNo.LineNo, Forms.line_read, Ranges.IsInRange, Words.line_text, Words.line_bytes}
 use Rattle.image_lines.proofs.lemmas.LawLemmas.{read_only}
-use Rattle.image_file.specs.declared.refusal.ImageNo.{ImageNo}
-use Rattle.image_file.specs.declared.refusal.ImageNo.TheVariants.{Syntax, Range}
-use Rattle.image_file.specs.declared.draft.Draft.{Draft}
-use Rattle.image_file.specs.declared.draft.Draft.TheVariants.{Blank, Ended}
-use Rattle.image_file.specs.Drafts.{may_stand, has_room, draft_with}
-use Rattle.image_file.specs.Files.{image_text}
-use Rattle.image_file.specs.Ranges.{IsInRanges, Reads}
 use Rattle.image_file.specs.Reading.{pieces_of, followed, after_line, at_end, and_then, read_from, file_read}
-use Rattle.image_file.proofs.DraftLemmas.{IsGood, draft_lines, draft_step}
-use Rattle.image_file.proofs.RangeLemmas.{in_ranges}
+use Rattle.image_file.specs.declared.{refusal.ImageNo.ImageNo, refusal.ImageNo.TheVariants.Syntax, refusal.ImageNo.TheVariants.Range, draft.Draft.Draft}
+use Rattle.image_file.specs.declared.draft.Draft.TheVariants.{Blank, Ended}
+use Rattle.image_file.specs.{Drafts.may_stand, Drafts.has_room, Drafts.draft_with, Files.image_text, Ranges.IsInRanges, Ranges.Reads}
+use Rattle.image_file.proofs.{DraftLemmas.IsGood, DraftLemmas.draft_lines, DraftLemmas.draft_step, RangeLemmas.in_ranges}
 
 at_end_ok : (n : ℕ) (draft : Draft) (last : List ℕ) (file : ImageFile) → at_end n draft last ≡ Ok file → (draft ≡ Ended file) × (last ≡ [])
 at_end_ok n (Ended other) [] file e = (cc, refl)

@@ -1,42 +1,22 @@
 -- How lines lead from a text so far to another.
 use Rattle.std.proofs.Common.{◌≡◌, ℕ, suc, ◌+◌, ◌≤◌, ◌<◌, true, List, [], ◌∷◌, ◌++◌, length, map, Ok, refl, sym, ap, ap₂, ◌∙◌, subst, All, arith, append-nil, append_assoc, length-append}
+use Rattle.std.proofs.lemmas.List.{map-append, Elements.All-head, Elements.All-tail, Splits.slice_split_at}
+use Rattle.std.proofs.lemmas.{List.Sums.sum_by-append, List.Sums.sum_by-cons, List.Sums.sum_by_push, Slice.Zip.firsts-zip, Slice.Zip.seconds-zip}
 use Rattle.std.specs.List.{flat_map, zip, sum_by}
-use Rattle.std.proofs.lemmas.List.{map-append}
-use Rattle.std.proofs.lemmas.List.Elements.{All-head, All-tail}
-use Rattle.std.proofs.lemmas.List.Splits.{slice_split_at}
-use Rattle.std.proofs.lemmas.List.Sums.{sum_by-append, sum_by-cons, sum_by_push}
-use Rattle.std.proofs.lemmas.Slice.Zip.{firsts-zip, seconds-zip}
 use Rattle.limits.specs.declared.TheConstants.{MAX_FUNCTIONS, MAX_ARRAY_BITS}
 use Rattle.func_table.specs.declared.Table.{Table}
 use Rattle.text_lines.specs.Bytes.{is_line_feed}
-use Rattle.image_defs.specs.declared.image.Source.{Source}
-use Rattle.image_defs.specs.declared.image.Task.{Task}
-use Rattle.image_defs.specs.declared.image.BlockWork.{BlockWork}
-use Rattle.image_defs.specs.declared.image.OutBit.{OutBit}
-use Rattle.image_defs.specs.declared.image.InColumn.{InColumn}
-use Rattle.image_defs.specs.declared.image.LinkOut.{LinkOut}
-use Rattle.image_defs.specs.declared.image.LinkIn.{LinkIn}
-use Rattle.image_defs.specs.declared.image.Work.{Work}
-use Rattle.image_defs.specs.declared.image.Work.TheVariants.{Logic, Array, Host}
-use Rattle.image_defs.specs.declared.image.PortImage.{PortImage}
+use Rattle.image_defs.specs.declared.image.{Source.Source, Task.Task, BlockWork.BlockWork, OutBit.OutBit, InColumn.InColumn, LinkOut.LinkOut, LinkIn.LinkIn}
+use Rattle.image_defs.specs.declared.image.{Work.Work, Work.TheVariants.Logic, Work.TheVariants.Array, Work.TheVariants.Host, PortImage.PortImage}
 use Rattle.image_defs.specs.declared.file.PortClaims.{PortClaims}
-use Rattle.image_lines.specs.declared.line.Sizes.{Sizes}
-use Rattle.image_lines.specs.declared.line.Line.{Line}
+use Rattle.image_lines.specs.{declared.line.Sizes.Sizes, declared.line.Line.Line, Forms.line_read, Ranges.IsInRange, Words.line_text, Words.line_bytes}
 use Rattle.image_lines.specs.declared.line.Line.TheVariants as line
-use Rattle.image_lines.specs.Forms.{line_read}
-use Rattle.image_lines.specs.Ranges.{IsInRange}
-use Rattle.image_lines.specs.Words.{line_text, line_bytes}
 use Rattle.image_lines.proofs.lemmas.LawLemmas.{read_again, line_lacks}
-use Rattle.image_file.specs.declared.draft.OpenPort.{OpenPort}
-use Rattle.image_file.specs.declared.draft.Draft.{Draft}
-use Rattle.image_file.specs.declared.draft.Draft.TheVariants.{Within}
 use Rattle.image_file.specs.Drafts.{may_stand, has_room, draft_with, opened}
-use Rattle.image_file.specs.Files.{claimed, work_lines, kind_of}
-use Rattle.image_file.specs.Ranges.{bits_of, block_bits}
+use Rattle.image_file.specs.declared.draft.{OpenPort.OpenPort, Draft.Draft, Draft.TheVariants.Within}
+use Rattle.image_file.specs.{Files.claimed, Files.work_lines, Files.kind_of, Ranges.bits_of, Ranges.block_bits}
 use Rattle.image_file.specs.Reading.{pieces_of, after_line, read_from}
-use Rattle.image_file.proofs.DraftLemmas.{IsClosed}
-use Rattle.image_file.proofs.ReadingLemmas.{passes}
-use Rattle.image_file.proofs.WorkLemmas.{claims_of_map}
+use Rattle.image_file.proofs.{DraftLemmas.IsClosed, ReadingLemmas.passes, WorkLemmas.claims_of_map}
 
 pub record Step (draft : Draft) (said : Line) (after : Draft) : Type 0 where
   pub stands : may_stand draft said ≡ true

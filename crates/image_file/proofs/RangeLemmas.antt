@@ -2,13 +2,9 @@
 use Rattle.std.proofs.Common.{◌≡◌, ℕ, zero, suc, ◌≤◌, List, [], ◌∷◌, length, Some, slice_get, subst, refl, All, arith}
 use Rattle.std.proofs.lemmas.List.Elements.{All-nil, All-cons, All-head, All-tail}
 use Rattle.limits.specs.declared.TheConstants.{MAX_FUNCTIONS, MAX_ARRAY_BITS, MAX_ARRAY}
-use Rattle.image_defs.specs.declared.image.PortImage.{PortImage}
-use Rattle.image_defs.specs.Places.{item_slots}
-use Rattle.image_defs.specs.declared.file.PortClaims.{PortClaims}
-use Rattle.image_defs.specs.declared.file.ImageFile.{ImageFile}
+use Rattle.image_defs.specs.{declared.image.PortImage.PortImage, Places.item_slots, declared.file.PortClaims.PortClaims, declared.file.ImageFile.ImageFile}
 use Rattle.image_lines.specs.Ranges.{IsInRange}
-use Rattle.image_file.specs.Files.{file_lines}
-use Rattle.image_file.specs.Ranges.{tables_of, bits_of, IsInRanges}
+use Rattle.image_file.specs.{Files.file_lines, Ranges.tables_of, Ranges.bits_of, Ranges.IsInRanges}
 use Rattle.image_file.proofs.DraftLemmas.{AreClosed, closed_lengths, arrays_in}
 
 abbrev HasFewTables : PortImage → Type 0

@@ -2,13 +2,11 @@
 use Rattle.std.proofs.Common.{◌≡◌, ℕ, suc, ◌+◌, ◌≤◌, List, [], ◌∷◌, ◌++◌, length, length-append, Some, None, Result, Ok, Err, refl, sym, ap, ◌∙◌, inr, arith}
 use Rattle.std.proofs.lemmas.List.Splits.{length-slice_split, join_with_byte-slice_split}
 use Rattle.std.specs.List.{join_with_byte}
-use Rattle.text_lines.specs.Answers.{AnswersAs}
-use Rattle.text_lines.specs.Bytes.{is_line_feed, cut_at}
+use Rattle.text_lines.specs.{Answers.AnswersAs, Bytes.is_line_feed, Bytes.cut_at}
 use Rattle.image_lines.specs.Forms.{line_read}
 use Rattle.image_lines.proofs.lemmas.SplitLemmas.{cut_some, cut_none}
-use Rattle.image_file.specs.declared.refusal.ImageNo.{ImageNo}
-use Rattle.image_file.specs.declared.draft.Draft.{Draft}
 use Rattle.image_file.specs.Reading.{pieces_of, after_line, at_end, read_from}
+use Rattle.image_file.specs.declared.{refusal.ImageNo.ImageNo, draft.Draft.Draft}
 
 some_of : {X : Type 0} (xs : List X) → 1 ≤ length xs → (first : X) × ((rest : List X) × (xs ≡ first ∷ rest))
 some_of [] long = absurd (omega (arith, long))

@@ -1,18 +1,14 @@
 -- What a line adds to a text so far: itself, behind the lines that are there.
 use Rattle.std.proofs.Common.{◌≡◌, ℕ, ◌+◌, ◌≤◌, ◌==◌, true, List, [], ◌∷◌, ◌++◌, length, map, refl, sym, ap, ◌∙◌, arith, append-nil, append_assoc, length-append}
-use Rattle.std.proofs.lemmas.List.{length-map, map-append, nil_from_length}
-use Rattle.std.proofs.lemmas.List.Sums.{sum_by_push}
+use Rattle.std.proofs.lemmas.List.{length-map, map-append, nil_from_length, Sums.sum_by_push}
 use Rattle.limits.specs.declared.TheConstants.{MAX_FUNCTIONS, MAX_ARRAY_BITS}
-use Rattle.image_defs.specs.declared.image.Work.{Work}
-use Rattle.image_defs.specs.declared.image.Work.TheVariants.{Logic, Array, Host}
-use Rattle.image_defs.specs.declared.image.PortImage.{PortImage}
-use Rattle.image_defs.specs.Places.{item_slots, task_slot}
-use Rattle.image_defs.specs.declared.file.PortClaims.{PortClaims}
+use Rattle.image_defs.specs.declared.image.{Work.Work, Work.TheVariants.Logic, Work.TheVariants.Array, Work.TheVariants.Host, PortImage.PortImage}
+use Rattle.image_defs.specs.{Places.item_slots, Places.task_slot, declared.file.PortClaims.PortClaims}
 use Rattle.image_lines.specs.declared.line.Line.{Line}
 use Rattle.image_lines.specs.declared.line.Line.TheVariants as line
 use Rattle.image_file.specs.Files.{claimed, work_lines, port_lines, all_port_lines, kind_of}
-use Rattle.image_file.specs.Ranges.{tables_of, bits_of, block_bits}
 use Rattle.image_file.specs.Drafts.{work_allows, work_holds, work_with, items_with, bits_with}
+use Rattle.image_file.specs.Ranges.{tables_of, bits_of, block_bits}
 
 pub nil_of : {X : Type 0} (xs : List X) → (length xs == 0) ≡ true → xs ≡ []
 nil_of xs is = nil_from_length xs (grind (arith, is))

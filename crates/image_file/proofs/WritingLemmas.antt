@@ -1,30 +1,15 @@
 -- Lines written one after the other.
 use Rattle.std.proofs.Common.{◌≡◌, ℕ, List, [], ◌∷◌, ◌++◌, map, refl, sym, ap, ap₂, ◌∙◌, ⊎_elim, append-nil, append_assoc}
-use Rattle.std.proofs.iter.Yields.{fronts}
-use Rattle.std.proofs.lemmas.Iterator.{zips}
-use Rattle.std.proofs.lemmas.Slice.Zip.{Zip-more, either_empty_from_Zip}
-use Rattle.std.specs.Borrow.{Bor}
-use Rattle.std.specs.Iterator.Adapters.{zip_first, zip_second}
-use Rattle.std.specs.List.{flat_map, zip}
-use Rattle.std.specs.Prelude.{Option, Some, None}
-use Rattle.std.specs.Slice.Iter.{iter_rest}
-use Rattle.std.specs.declared.iter.Zip.{Zip}
-use Rattle.std.specs.declared.slice.Iter.{Iter}
-use Rattle.std.proofs.lemmas.Grind.{flat_map-append}
-use Rattle.std.proofs.lemmas.List.Folds.{flat_map-map}
+use Rattle.std.proofs.{iter.Yields.fronts, lemmas.Iterator.zips, lemmas.Slice.Zip.Zip-more, lemmas.Slice.Zip.either_empty_from_Zip}
+use Rattle.std.proofs.lemmas.{Grind.flat_map-append, List.Folds.flat_map-map}
+use Rattle.std.specs.{Borrow.Bor, Iterator.Adapters.zip_first, Iterator.Adapters.zip_second, List.flat_map, List.zip}
+use Rattle.std.specs.{Prelude.Option, Prelude.Some, Prelude.None, Slice.Iter.iter_rest, declared.iter.Zip.Zip, declared.slice.Iter.Iter}
 use Rattle.func_table.specs.declared.Table.{Table}
-use Rattle.image_defs.specs.declared.image.Source.{Source}
-use Rattle.image_defs.specs.declared.image.Task.{Task}
-use Rattle.image_defs.specs.declared.image.BlockWork.{BlockWork}
-use Rattle.image_defs.specs.declared.image.OutBit.{OutBit}
-use Rattle.image_defs.specs.declared.image.InColumn.{InColumn}
-use Rattle.image_defs.specs.declared.image.Work.TheVariants.{Logic, Array, Host}
-use Rattle.image_defs.specs.declared.image.PortImage.{PortImage}
-use Rattle.image_defs.specs.declared.file.PortClaims.{PortClaims}
-use Rattle.image_defs.specs.declared.file.ImageFile.{ImageFile}
-use Rattle.image_lines.specs.declared.line.Line.{Line}
+use Rattle.image_defs.specs.declared.image.{Source.Source, Task.Task, BlockWork.BlockWork, OutBit.OutBit, InColumn.InColumn}
+use Rattle.image_defs.specs.declared.image.{Work.TheVariants.Logic, Work.TheVariants.Array, Work.TheVariants.Host, PortImage.PortImage}
+use Rattle.image_defs.specs.declared.file.{PortClaims.PortClaims, ImageFile.ImageFile}
+use Rattle.image_lines.specs.{declared.line.Line.Line, Words.line_text}
 use Rattle.image_lines.specs.declared.line.Line.TheVariants as line
-use Rattle.image_lines.specs.Words.{line_text}
 use Rattle.image_file.specs.Files.{work_lines, port_lines, all_port_lines, kind_of, sizes_of, image_text}
 
 no_pairs : {X Y : Type 0} (xs : List X) (none : List Y) → none ≡ [] → zip xs none ≡ []

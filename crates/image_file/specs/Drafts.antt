@@ -3,19 +3,13 @@
 use Rattle.std.specs.Prelude.{ℕ, ◌+◌, ◌-◌, ◌==◌, ◌&&◌, Bool, true, false, List, [], ◌∷◌, ◌++◌, length, nat_lt, nat_le}
 use Rattle.std.specs.List.{count_by}
 use Rattle.limits.specs.declared.TheConstants.{MAX_ARRAY, MAX_FUNCTIONS, MAX_ARRAY_BITS}
-use Rattle.image_defs.specs.declared.image.Work.{Work}
-use Rattle.image_defs.specs.declared.image.Work.TheVariants.{Logic, Array, Host}
-use Rattle.image_defs.specs.declared.image.PortImage.{PortImage}
-use Rattle.image_defs.specs.declared.file.PortClaims.{PortClaims}
-use Rattle.image_defs.specs.declared.file.ImageFile.{ImageFile}
-use Rattle.image_lines.specs.declared.line.PortKind.{PortKind}
+use Rattle.image_defs.specs.declared.image.{Work.Work, Work.TheVariants.Logic, Work.TheVariants.Array, Work.TheVariants.Host, PortImage.PortImage}
+use Rattle.image_defs.specs.declared.file.{PortClaims.PortClaims, ImageFile.ImageFile}
+use Rattle.image_lines.specs.declared.line.{PortKind.PortKind, Line.Line}
 use Rattle.image_lines.specs.declared.line.PortKind.TheVariants as kinds
-use Rattle.image_lines.specs.declared.line.Line.{Line}
 use Rattle.image_lines.specs.declared.line.Line.TheVariants as line
-use Rattle.image_file.specs.declared.draft.OpenPort.{OpenPort}
-use Rattle.image_file.specs.declared.draft.Body.{Body}
-use Rattle.image_file.specs.declared.draft.Draft.{Draft}
 use Rattle.image_file.specs.declared.draft.Draft.TheVariants.{Blank, Titled, Sized, Within, Ended}
+use Rattle.image_file.specs.declared.draft.{OpenPort.OpenPort, Body.Body, Draft.Draft}
 use Rattle.image_file.specs.Ranges.{is_array_port, tables_of, block_bits}
 
 -- ---- which lines may stand there

@@ -1,18 +1,11 @@
 -- The text of a file: the lines that it has, in their order.
 use Rattle.std.specs.Prelude.{ℕ, List, [], ◌∷◌, ◌++◌, length, map}
 use Rattle.std.specs.List.{flat_map, zip}
-use Rattle.image_defs.specs.declared.image.Work.{Work}
-use Rattle.image_defs.specs.declared.image.Work.TheVariants.{Logic, Array, Host}
-use Rattle.image_defs.specs.declared.image.PortImage.{PortImage}
-use Rattle.image_defs.specs.declared.image.Image.{Image}
-use Rattle.image_defs.specs.declared.file.PortClaims.{PortClaims}
-use Rattle.image_defs.specs.declared.file.ImageFile.{ImageFile}
-use Rattle.image_lines.specs.declared.line.PortKind.{PortKind}
+use Rattle.image_defs.specs.declared.image.{Work.Work, Work.TheVariants.Logic, Work.TheVariants.Array, Work.TheVariants.Host, PortImage.PortImage, Image.Image}
+use Rattle.image_defs.specs.declared.file.{PortClaims.PortClaims, ImageFile.ImageFile}
+use Rattle.image_lines.specs.{declared.line.PortKind.PortKind, declared.line.Sizes.Sizes, declared.line.Line.Line, Words.line_text}
 use Rattle.image_lines.specs.declared.line.PortKind.TheVariants as kinds
-use Rattle.image_lines.specs.declared.line.Sizes.{Sizes}
-use Rattle.image_lines.specs.declared.line.Line.{Line}
 use Rattle.image_lines.specs.declared.line.Line.TheVariants as line
-use Rattle.image_lines.specs.Words.{line_text}
 
 -- what the second line says
 abbrev pub sizes_of : Image → Sizes

@@ -3,13 +3,8 @@ use Rattle.std.specs.Prelude.{◌≡◌, ℕ, ◌*◌, ◌^◌, ◌≤◌, Bool,
 use Rattle.std.specs.List.{count_by, sum_by}
 use Rattle.limits.specs.declared.TheConstants.{MAX_ARRAY, MAX_FUNCTIONS, MAX_ARRAY_BITS}
 use Rattle.func_table.specs.declared.Table.{Table}
-use Rattle.image_defs.specs.declared.image.BlockWork.{BlockWork}
-use Rattle.image_defs.specs.declared.image.Work.{Work}
-use Rattle.image_defs.specs.declared.image.Work.TheVariants.{Logic, Array, Host}
-use Rattle.image_defs.specs.declared.image.PortImage.{PortImage}
-use Rattle.image_defs.specs.Places.{blocks_of}
-use Rattle.image_defs.specs.declared.file.ImageFile.{ImageFile}
-use Rattle.image_defs.specs.Claimed.{HasClaims}
+use Rattle.image_defs.specs.declared.image.{BlockWork.BlockWork, Work.Work, Work.TheVariants.Logic, Work.TheVariants.Array, Work.TheVariants.Host}
+use Rattle.image_defs.specs.{declared.image.PortImage.PortImage, Places.blocks_of, declared.file.ImageFile.ImageFile, Claimed.HasClaims}
 use Rattle.image_lines.specs.Ranges.{IsInRange}
 use Rattle.image_file.specs.Files.{file_lines, image_text}
 

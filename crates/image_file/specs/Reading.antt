@@ -1,15 +1,10 @@
 -- What a text reads as, line by line, or its first fault.
 use Rattle.std.specs.Prelude.{ℕ, suc, ◌&&◌, Bool, List, [], ◌∷◌, Option, Result, Ok, Err, if◌then◌else◌}
-use Rattle.std.specs.List.{slice_split}
-use Rattle.std.specs.Result.{result_err}
+use Rattle.std.specs.{List.slice_split, Result.result_err}
 use Rattle.text_lines.specs.Bytes.{is_line_feed}
 use Rattle.image_defs.specs.declared.file.ImageFile.{ImageFile}
-use Rattle.image_lines.specs.declared.line.Line.{Line}
-use Rattle.image_lines.specs.declared.line.LineNo.{LineNo}
-use Rattle.image_lines.specs.Forms.{line_read}
-use Rattle.image_file.specs.declared.refusal.ImageNo.{ImageNo}
-use Rattle.image_file.specs.declared.refusal.ImageNo.TheVariants.{Syntax, Range}
-use Rattle.image_file.specs.declared.draft.Draft.{Draft}
+use Rattle.image_lines.specs.{declared.line.Line.Line, declared.line.LineNo.LineNo, Forms.line_read}
+use Rattle.image_file.specs.declared.{refusal.ImageNo.ImageNo, refusal.ImageNo.TheVariants.Syntax, refusal.ImageNo.TheVariants.Range, draft.Draft.Draft}
 use Rattle.image_file.specs.declared.draft.Draft.TheVariants.{Blank, Ended}
 use Rattle.image_file.specs.Drafts.{may_stand, has_room, draft_with}
 

@@ -3,10 +3,7 @@
 ghost use Rattle.std.specs.Prelude.{◌≡◌, ◌⊎◌, List as Items, ℕ, Some, None};
 ghost use Rattle.text_lines.specs.Answers.{IsReader};
 ghost use Rattle.image_defs.specs.declared.file.ImageFile.{ImageFile};
-ghost use Rattle.image_file.specs.declared.refusal.ImageNo.{ImageNo};
-ghost use Rattle.image_file.specs.Files.{image_text};
-ghost use Rattle.image_file.specs.Ranges.{IsInRanges, Reads};
-ghost use Rattle.image_file.specs.Reading.{first_fault};
+ghost use Rattle.image_file.specs.{declared.refusal.ImageNo.ImageNo, Files.image_text, Ranges.IsInRanges, Ranges.Reads, Reading.first_fault};
 
 /// Each text reads as one file at most, and has no fault beside it. So files in range with one text are
 /// one file, and the text of a file in range has no fault.

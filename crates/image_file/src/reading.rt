@@ -1,17 +1,14 @@
 //! The reader of image texts.
 
 ghost use Rattle.std.specs.Prelude.{◌≡◌, ◌≤◌, ◌⊎◌, true, None, Ok, Err, IfOk, MatchResult, length};
-ghost use Rattle.limits.specs.declared.TheConstants.{MAX_TEXT_BYTES};
 ghost use Rattle.std.specs.Option.{option_map};
-ghost use Rattle.text_lines.specs.Answers.{Answers, AnswersAs};
-ghost use Rattle.text_lines.specs.Bytes.{cut_at};
+ghost use Rattle.limits.specs.declared.TheConstants.{MAX_TEXT_BYTES};
+ghost use Rattle.text_lines.specs.{Answers.Answers, Answers.AnswersAs, Bytes.cut_at};
 ghost use Rattle.image_defs.specs.declared.file.ImageFile.{ImageFile as File};
 ghost use Rattle.image_lines.specs.Forms.{is_within, line_read};
-ghost use Rattle.image_file.specs.declared.refusal.ImageNo.TheVariants.{Memory as NoMemory};
-ghost use Rattle.image_file.specs.declared.draft.Draft.TheVariants as draft;
-ghost use Rattle.image_file.specs.Drafts.{draft_with, has_room};
-ghost use Rattle.image_file.specs.Ranges.{Reads};
 ghost use Rattle.image_file.specs.Reading.{first_fault, file_read, after_line, followed, at_end};
+ghost use Rattle.image_file.specs.{declared.refusal.ImageNo.TheVariants.Memory as NoMemory, Drafts.draft_with, Drafts.has_room, Ranges.Reads};
+ghost use Rattle.image_file.specs.declared.draft.Draft.TheVariants as draft;
 
 use crate::adding::draft_with;
 use crate::draft::Draft;

@@ -1,13 +1,8 @@
 -- Hexadecimal digits and their value.
 use Rattle.std.proofs.Common.{◌≡◌, ℕ, zero, suc, ◌+◌, ◌-◌, ◌*◌, ◌/◌, ◌%◌, ◌^◌, ◌<◌, ◌≤◌, true, List, [], ◌∷◌, ◌++◌, length, take, get_or, min, refl, sym, ap, ◌∙◌, arith, take_all, pow-suc}
+use Rattle.std.proofs.{lemmas.List.Folds.list_all_more, lemmas.List.Sums.fold_push, Math.Seq.take-suc, lemmas.List.length-append, lemmas.Bool.and_parts}
 use Rattle.std.specs.List.{list_all}
-use Rattle.std.proofs.lemmas.List.Folds.{list_all_more}
-use Rattle.std.proofs.lemmas.List.Sums.{fold_push}
-use Rattle.std.proofs.Math.Seq.{take-suc}
-use Rattle.std.proofs.lemmas.List.{length-append}
-use Rattle.std.proofs.lemmas.Bool.{and_parts}
-use Rattle.image_lines.specs.Tokens.{is_hex, hex_value, hex_value_of}
-use Rattle.image_lines.specs.Words.{hex_digit, hex_digits}
+use Rattle.image_lines.specs.{Tokens.is_hex, Tokens.hex_value, Tokens.hex_value_of, Words.hex_digit, Words.hex_digits}
 
 digit_small : (b : ℕ) → is_hex b ≡ true → hex_value_of b < 16
 digit_small b is = grind arith

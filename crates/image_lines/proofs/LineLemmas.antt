@@ -1,23 +1,19 @@
 -- Each line is spelled in one way.
 use Rattle.std.proofs.Common.{◌≡◌, ◌∙◌, inl, inr, ℕ, ◌+◌, ◌-◌, ◌^◌, ◌<◌, ◌≤◌, ◌==◌, Bool, true, false, List, [], ◌∷◌, ◌++◌, length, map, take, drop, codes, decimal, refl, ap, Option, Some, None, bytes_eq, if◌then◌else◌, All, append-nil, arith}
-use Rattle.std.specs.Option.{option_map, option_and_then}
-use Rattle.std.proofs.lemmas.Bool.{eqb-true}
-use Rattle.std.proofs.lemmas.Slice.Eq.{bytes_eq-Decides}
 use Rattle.std.proofs.lemmas.List.{length-append, length-drop, length-take-le, map-append, take-append-drop}
 use Rattle.std.proofs.lemmas.List.Elements.{All-nil, All-cons, All-head, All-tail, All-append}
-use Rattle.std.proofs.Math.Seq.{take-append_seam, drop-append_seam}
+use Rattle.std.proofs.{lemmas.Bool.eqb-true, lemmas.Slice.Eq.bytes_eq-Decides, Math.Seq.take-append_seam, Math.Seq.drop-append_seam}
+use Rattle.std.specs.Option.{option_map, option_and_then}
 use Rattle.list_laws.proofs.Options.{one_some}
 use Rattle.image_defs.specs.declared.image.Source.{Source}
 use Rattle.image_defs.proofs.lemmas.PlaceLemmas.{same_number}
-use Rattle.image_lines.specs.declared.line.Line.{Line}
-use Rattle.image_lines.specs.declared.line.Line.TheVariants.{Table, Block, Send}
-use Rattle.image_lines.specs.declared.word.Word.{Word}
-use Rattle.image_lines.specs.declared.word.Word.TheVariants as word
-use Rattle.image_lines.specs.Forms as forms
 use Rattle.image_lines.specs.Forms.{named, line_of, lined, to_end, ended, send_of, table_of, block_of}
 use Rattle.image_lines.specs.Tokens.{Left, Reader, field, both, behind, all_of, number_token, source_token, kind_token}
 use Rattle.image_lines.specs.Words.{line_words, source_word, init_word, kind_word, hex_digits}
+use Rattle.image_lines.specs.declared.{line.Line.Line, line.Line.TheVariants.Table, line.Line.TheVariants.Block, line.Line.TheVariants.Send, word.Word.Word}
 use Rattle.image_lines.specs.Ranges.{IsSmall, IsSmallSource, IsSmallLine}
+use Rattle.image_lines.specs.declared.word.Word.TheVariants as word
+use Rattle.image_lines.specs.Forms as forms
 use Rattle.image_lines.proofs.TokenLemmas.{SpellsToken, if_or, number_spells, source_spells, init_spells, kind_spells, hex_spells}
 use Rattle.image_lines.proofs.ReaderLemmas.{Spells, same_left, field_spells, both_spells, behind_spells, all_again, all_found}
 

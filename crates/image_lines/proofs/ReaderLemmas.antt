@@ -1,8 +1,8 @@
 -- Each row of fields is spelled in one way.
 use Rattle.std.proofs.Common.{◌≡◌, ◌∙◌, inl, inr, ℕ, Bool, true, false, ◌||◌, List, [], ◌∷◌, ◌++◌, map, refl, sym, ap, Option, Some, None, bytes_eq, All, append_assoc}
-use Rattle.std.specs.Option.{option_map, option_and_then}
-use Rattle.std.proofs.lemmas.Slice.Eq.{bytes_eq-Decides}
 use Rattle.std.proofs.lemmas.List.Elements.{All-nil, All-cons, All-head, All-tail}
+use Rattle.std.proofs.lemmas.Slice.Eq.{bytes_eq-Decides}
+use Rattle.std.specs.Option.{option_map, option_and_then}
 use Rattle.image_lines.specs.Tokens.{Left, Reader, field, behind_token, both, and_then, paired, behind, all_of, in_front}
 use Rattle.image_lines.proofs.TokenLemmas.{SpellsToken, if_or}
 

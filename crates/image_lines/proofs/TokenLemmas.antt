@@ -1,24 +1,17 @@
 -- Each token is spelled in one way.
 use Rattle.std.proofs.Common.{◌≡◌, ◌⊎◌, ◌∙◌, inl, inr, ℕ, suc, ◌+◌, ◌-◌, ◌*◌, ◌^◌, ◌<◌, ◌==◌, nat_lt, Bool, true, false, ◌&&◌, List, [], ◌∷◌, length, min, get_or, decimal, refl, sym, ap, arith, rules, Option, Some, None, bytes_eq, if◌then◌else◌}
-use Rattle.std.specs.Option.{option_map}
-use Rattle.std.specs.List.{fold, list_all}
-use Rattle.std.specs.Char.{is_ascii_digit}
 use Rattle.std.proofs.lemmas.Bool.{cases_eq, eqb-true, ltb-true, ltb-false, lt-ltb, and_parts}
-use Rattle.std.proofs.lemmas.Slice.Eq.{bytes_eq-Decides}
-use Rattle.std.proofs.lemmas.Str.Parse.{IsNumeralModel, numerals_by_fold}
 use Rattle.std.proofs.lemmas.Fmt.{digits_decimal, digits_value-decimal, decimal-digits_value, first_decimal, decimal_digit}
+use Rattle.std.proofs.lemmas.{Slice.Eq.bytes_eq-Decides, Str.Parse.IsNumeralModel, Str.Parse.numerals_by_fold}
+use Rattle.std.specs.{Option.option_map, List.fold, List.list_all, Char.is_ascii_digit}
 use Rattle.text_lines.specs.Numbers.{number_of, digits_value}
-use Rattle.logic_four.specs.declared.V4.{V4}
-use Rattle.logic_four.specs.Values.{value_char}
+use Rattle.logic_four.specs.{declared.V4.V4, Values.value_char}
 use Rattle.logic_four.specs.declared.V4.TheVariants as v4
-use Rattle.net_defs.specs.declared.timing.Init.{Init}
-use Rattle.net_defs.specs.declared.timing.Init.TheVariants.{Undef, Zero}
-use Rattle.image_defs.specs.declared.image.Source.{Source}
-use Rattle.image_defs.specs.declared.image.Source.TheVariants.{Own, Got, Const}
-use Rattle.image_lines.specs.declared.line.PortKind.{PortKind}
-use Rattle.image_lines.specs.declared.line.PortKind.TheVariants.{Logic, Array, Host}
+use Rattle.net_defs.specs.declared.timing.Init.{Init, TheVariants.Undef, TheVariants.Zero}
+use Rattle.image_defs.specs.declared.image.Source.{Source, TheVariants.Own, TheVariants.Got, TheVariants.Const}
 use Rattle.image_lines.specs.Tokens.{plain_number, capped, number_token, source_token, lettered, value_letter, init_token, kind_token, hex_token, is_hex, hex_value, made, const_of}
 use Rattle.image_lines.specs.Words.{source_word, init_word, kind_word, hex_digits}
+use Rattle.image_lines.specs.declared.line.PortKind.{PortKind, TheVariants.Logic, TheVariants.Array, TheVariants.Host}
 use Rattle.image_lines.specs.Ranges.{IsSmall, IsSmallSource}
 use Rattle.image_lines.proofs.HexLemmas as hex
 

@@ -1,13 +1,9 @@
 -- Lines as they are written, token by token.
 use Rattle.std.proofs.Common.{◌≡◌, ◌∙◌, ℕ, suc, ◌+◌, ◌-◌, ◌<◌, ◌/◌, ◌%◌, List, [], ◌∷◌, ◌++◌, length, map, drop, set, codes, decimal, refl, sym, ap, arith, append-nil, append_assoc}
+use Rattle.std.proofs.lemmas.{Grind.flat_map-append, List.drop-set}
 use Rattle.std.specs.List.{flat_map, fold, join_with_byte}
-use Rattle.std.proofs.lemmas.Grind.{flat_map-append}
-use Rattle.std.proofs.lemmas.List.{drop-set}
 use Rattle.func_table.specs.declared.table.Table.{Table}
-use Rattle.image_defs.specs.declared.image.BlockWork.{BlockWork}
-use Rattle.image_defs.specs.declared.image.LinkOut.{LinkOut}
-use Rattle.image_defs.specs.declared.image.Source.{Source}
-use Rattle.image_defs.specs.declared.image.Task.TheVariants.{Eval, Hold}
+use Rattle.image_defs.specs.declared.image.{BlockWork.BlockWork, LinkOut.LinkOut, Source.Source, Task.TheVariants.Eval, Task.TheVariants.Hold}
 use Rattle.image_lines.specs.declared.line.Line.TheVariants as line
 use Rattle.net_defs.specs.declared.timing.Init.{Init}
 use Rattle.image_lines.specs.Words.{hex_digit, hex_digits, source_word, init_word, line_text, line_bytes, line_words}

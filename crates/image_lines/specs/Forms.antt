@@ -3,15 +3,11 @@ use Rattle.std.specs.Prelude.{ℕ, ◌+◌, ◌==◌, ◌&&◌, Bool, true, fals
 use Rattle.std.specs.Option.{option_map, option_and_then}
 use Rattle.limits.specs.declared.TheConstants.{MAX_SLOTS, MAX_UNITS, MAX_SIGNALS, MAX_PORTS, MAX_ADDRESS_BITS, MAX_WORD_BITS}
 use Rattle.net_defs.specs.declared.timing.Init.{Init}
-use Rattle.image_defs.specs.declared.image.Source.{Source}
-use Rattle.image_defs.specs.declared.image.Task.TheVariants.{Eval, Hold}
-use Rattle.image_lines.specs.declared.line.Line.{Line}
+use Rattle.image_defs.specs.declared.image.{Source.Source, Task.TheVariants.Eval, Task.TheVariants.Hold}
 use Rattle.image_lines.specs.declared.line.Line.TheVariants.{Version, Head, Port, Table, Work, Block, Bit, Input, Print, Send, Take, End}
-use Rattle.image_lines.specs.declared.line.LineNo.{LineNo}
-use Rattle.image_lines.specs.declared.line.LineNo.TheVariants.{Syntax}
-use Rattle.image_lines.specs.declared.word.Word.{Word}
-use Rattle.image_lines.specs.declared.word.Word.TheVariants as word
 use Rattle.image_lines.specs.Tokens.{Left, Reader, field, both, behind, all_of, number_token, source_token, init_token, kind_token, hex_token, tokens_of}
+use Rattle.image_lines.specs.declared.{line.Line.Line, line.LineNo.LineNo, line.LineNo.TheVariants.Syntax, word.Word.Word}
+use Rattle.image_lines.specs.declared.word.Word.TheVariants as word
 
 -- what the first token of a line says that the line is
 unfoldable pub named : List ℕ → Option Word

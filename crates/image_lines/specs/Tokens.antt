@@ -1,17 +1,12 @@
 -- How tokens are read. Beside the value of a token stands whether a number in it is too large.
 use Rattle.std.specs.Prelude.{ℕ, ◌+◌, ◌-◌, ◌*◌, ◌^◌, ◌==◌, ◌&&◌, ◌||◌, Bool, true, false, List, [], ◌∷◌, length, slice_index, min, codes, nat_lt, nat_le, Option, Some, None, if◌then◌else◌, bytes_eq}
-use Rattle.std.specs.List.{fold, list_all, slice_split}
-use Rattle.std.specs.Option.{option_map, option_and_then}
-use Rattle.std.specs.Char.{is_ascii_digit}
+use Rattle.std.specs.{List.fold, List.list_all, List.slice_split, Option.option_map, Option.option_and_then, Char.is_ascii_digit}
 use Rattle.text_lines.specs.Numbers.{number_of}
 use Rattle.logic_four.specs.declared.V4.{V4}
 use Rattle.logic_four.specs.declared.V4.TheVariants as v4
-use Rattle.net_defs.specs.declared.timing.Init.{Init}
-use Rattle.net_defs.specs.declared.timing.Init.TheVariants.{Undef, Zero}
-use Rattle.image_defs.specs.declared.image.Source.{Source}
-use Rattle.image_defs.specs.declared.image.Source.TheVariants.{Own, Got, Const}
-use Rattle.image_lines.specs.declared.line.PortKind.{PortKind}
-use Rattle.image_lines.specs.declared.line.PortKind.TheVariants.{Logic, Array, Host}
+use Rattle.net_defs.specs.declared.timing.Init.{Init, TheVariants.Undef, TheVariants.Zero}
+use Rattle.image_defs.specs.declared.image.Source.{Source, TheVariants.Own, TheVariants.Got, TheVariants.Const}
+use Rattle.image_lines.specs.declared.line.PortKind.{PortKind, TheVariants.Logic, TheVariants.Array, TheVariants.Host}
 
 abbrev pub is_space : ℕ → Bool
 is_space byte = byte == 32

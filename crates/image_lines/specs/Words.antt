@@ -2,18 +2,12 @@
 use Rattle.std.specs.Prelude.{ℕ, zero, suc, ◌+◌, ◌/◌, ◌%◌, List, [], ◌∷◌, ◌++◌, codes, decimal, length, map, nat_lt, if◌then◌else◌}
 use Rattle.std.specs.List.{join_with_byte}
 use Rattle.logic_four.specs.Values.{value_char}
-use Rattle.net_defs.specs.declared.timing.Init.{Init}
-use Rattle.net_defs.specs.declared.timing.Init.TheVariants.{Undef, Zero}
-use Rattle.image_defs.specs.declared.image.Source.{Source}
-use Rattle.image_defs.specs.declared.image.Source.TheVariants.{Own, Got, Const}
-use Rattle.image_defs.specs.declared.image.Task.{Task}
-use Rattle.image_defs.specs.declared.image.Task.TheVariants.{Eval, Hold}
-use Rattle.image_defs.specs.declared.image.BlockWork.{BlockWork}
-use Rattle.image_lines.specs.declared.line.PortKind.{PortKind}
-use Rattle.image_lines.specs.declared.line.PortKind.TheVariants.{Logic, Array, Host}
-use Rattle.image_lines.specs.declared.line.Sizes.{Sizes}
-use Rattle.image_lines.specs.declared.line.Line.{Line}
+use Rattle.net_defs.specs.declared.timing.Init.{Init, TheVariants.Undef, TheVariants.Zero}
+use Rattle.image_defs.specs.declared.image.{Source.Source, Source.TheVariants.Own, Source.TheVariants.Got, Source.TheVariants.Const, Task.Task}
+use Rattle.image_defs.specs.declared.image.{Task.TheVariants.Eval, Task.TheVariants.Hold, BlockWork.BlockWork}
 use Rattle.image_lines.specs.declared.line.Line.TheVariants.{Version, Head, Port, Table, Work, Block, Bit, Input, Print, Send, Take, End}
+use Rattle.image_lines.specs.declared.line.{PortKind.PortKind, PortKind.TheVariants.Logic, PortKind.TheVariants.Array, PortKind.TheVariants.Host, Sizes.Sizes}
+use Rattle.image_lines.specs.declared.line.Line.{Line}
 
 -- a digit from 0 to 15: `0` to `9`, `a` to `f`
 abbrev pub hex_digit : ℕ → ℕ

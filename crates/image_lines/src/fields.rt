@@ -1,9 +1,8 @@
 //! The fields of a line, read one after another.
 
 ghost use Rattle.std.specs.Prelude.{◌≡◌, ◌||◌, ◌∷◌, [], false, MatchOption};
-ghost use Rattle.image_lines.specs.Tokens.{behind, field, tokens_of};
-ghost use Rattle.image_lines.specs.code.Tokens.{left_tokens, Gives};
 ghost use Rattle.image_lines.specs.Forms.{number, numbers, sources, feeds, times, counts, init};
+ghost use Rattle.image_lines.specs.{Tokens.behind, Tokens.field, Tokens.tokens_of, code.Tokens.left_tokens, code.Tokens.Gives};
 
 use crate::tokens::Token;
 use crate::word::is_word;
@@ -22,8 +21,7 @@ pub(crate) struct Fields<'a> {
 
 impl<'a> Model for Fields<'a> {
     ghost use Rattle.std.specs.Prelude.{List as Items, ℕ, Bool};
-    ghost use Rattle.image_lines.specs.Tokens.{Left};
-    ghost use Rattle.image_lines.specs.code.Tokens.{left_tokens};
+    ghost use Rattle.image_lines.specs.{Tokens.Left, code.Tokens.left_tokens};
 
     ghost Value = { Left };
 

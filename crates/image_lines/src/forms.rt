@@ -2,10 +2,8 @@
 
 ghost use Rattle.std.specs.Prelude.{◌≡◌, IfOk, true, false};
 ghost use Rattle.text_lines.specs.Answers.{AnswersAs};
-ghost use Rattle.image_lines.specs.declared.line.LineNo.TheVariants.{Memory as NoMemory};
-ghost use Rattle.image_lines.specs.code.Tokens.{Gives};
 ghost use Rattle.image_lines.specs.Forms.{line_read, line_in, form, eval, hold, bit, input, print, receipt, port, version, head, finished_by, is_within, is_from};
-ghost use Rattle.image_lines.specs.code.Forms.{IsShort};
+ghost use Rattle.image_lines.specs.{declared.line.LineNo.TheVariants.Memory as NoMemory, code.Tokens.Gives, code.Forms.IsShort};
 ghost use Rattle.image_lines.specs.declared.line.Line.TheVariants as line;
 
 use crate::fields::Fields;

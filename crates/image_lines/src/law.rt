@@ -2,10 +2,7 @@
 
 ghost use Rattle.std.specs.Prelude.{◌≡◌, ℕ, true, false, List, Ok, All};
 ghost use Rattle.text_lines.specs.Bytes.{is_line_feed};
-ghost use Rattle.image_lines.specs.declared.line.Line.{Line};
-ghost use Rattle.image_lines.specs.Forms.{line_read};
-ghost use Rattle.image_lines.specs.Ranges.{IsInRange};
-ghost use Rattle.image_lines.specs.Words.{line_bytes};
+ghost use Rattle.image_lines.specs.{declared.line.Line.Line, Forms.line_read, Ranges.IsInRange, Words.line_bytes};
 
 /// A law: each line in its ranges is read back from the bytes that spell it, and what is read as one in
 /// its ranges is, and was spelled so. So each line has one spelling. It does nothing.

@@ -1,9 +1,8 @@
 //! All tokens that are left of a line.
 
 ghost use Rattle.std.specs.Prelude.{◌≡◌, Some, None, IfOk};
-ghost use Rattle.image_lines.specs.Tokens.{all_of};
-ghost use Rattle.image_lines.specs.code.Tokens.{AllGiven, Gives};
 ghost use Rattle.image_lines.specs.Forms.{send, send_of, table, table_of, block, block_of};
+ghost use Rattle.image_lines.specs.{Tokens.all_of, code.Tokens.AllGiven, code.Tokens.Gives};
 
 use crate::fields::Fields;
 use crate::line::Line;

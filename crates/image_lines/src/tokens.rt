@@ -1,8 +1,7 @@
 //! Single tokens. Beside the value of a token stands whether a number in it is too large.
 
 ghost use Rattle.std.specs.Prelude.{◌≡◌, ℕ, Bool, List as Items, Option, min, Some, None, if◌then◌else◌};
-ghost use Rattle.std.specs.List.{list_all};
-ghost use Rattle.std.specs.Option.{option_map};
+ghost use Rattle.std.specs.{List.list_all, Option.option_map};
 ghost use Rattle.image_lines.specs.Tokens.{plain_number, number_token, source_token, lettered, value_letter, init_token, kind_token, hex_token, is_hex, hex_value, hex_value_of};
 
 use crate::line::PortKind;

@@ -1,20 +1,14 @@
 -- The formula for two operands answers as the gates do.
 use Rattle.std.proofs.Common.{◌≡◌, ℕ, ◌+◌, ◌-◌, ◌%◌, ◌<◌, bit_and, bit_or, Bool, true, false, ◌&&◌, if◌then◌else◌, [], ◌∷◌, refl, sym, subst, arith}
-use Rattle.std.specs.Prelude.{min, max}
-use Rattle.std.specs.Int.{bit_at}
-use Rattle.std.specs.Int.RustNames.{bit_xor}
+use Rattle.std.specs.{Prelude.min, Prelude.max, Int.bit_at, Int.RustNames.bit_xor}
 use Rattle.limits.specs.declared.TheConstants.{LANES}
-use Rattle.logic_four.specs.declared.V4.{V4}
-use Rattle.logic_four.specs.declared.Kind.{Kind}
 use Rattle.logic_four.specs.declared.Kind.TheVariants.{And, Nand, Or, Nor, Xor, Xnor, Not, Buf, Tri, Bus}
-use Rattle.logic_four.specs.Gates.{gate_value}
+use Rattle.logic_four.specs.{declared.V4.V4, declared.Kind.Kind, Gates.gate_value}
 use Rattle.logic_four.proofs.lemmas.TestLemmas.{same}
-use Rattle.lane_planes.specs.declared.planes.Planes.{Planes}
-use Rattle.lane_planes.specs.Lanes.{lane_of}
+use Rattle.lane_planes.specs.Formula.{turns_operands, turns_answer, is_parity, mask_of}
+use Rattle.lane_planes.specs.{declared.planes.Planes.Planes, Lanes.lane_of, code.Formula.is_usual}
 use Rattle.lane_planes.proofs.WordLemmas.{Word, low_word, high_word, both, either, differ, apart, all_ones, no_ones}
 use Rattle.lane_planes.proofs.lemmas.LaneLemmas.{bits, for_both, in_lanes}
-use Rattle.lane_planes.specs.code.Formula.{is_usual}
-use Rattle.lane_planes.specs.Formula.{turns_operands, turns_answer, is_parity, mask_of}
 
 -- what each kind passes this one passes
 at_kind : (test : Kind → Bool) (kind : Kind)

@@ -1,15 +1,9 @@
 -- Operands joined one after the other make what the gate makes of all.
 use Rattle.std.proofs.Common.{◌≡◌, ◌∙◌, ◌≤◌, ℕ, zero, suc, ◌+◌, ◌-◌, List, [], ◌∷◌, length, take, eqb-true, refl, ap, arith}
-use Rattle.std.specs.Prelude.{IsTrue}
-use Rattle.std.specs.List.{fold}
-use Rattle.logic_four.specs.declared.V4.{V4}
-use Rattle.logic_four.specs.declared.Kind.{Kind}
-use Rattle.logic_four.specs.declared.Kind.TheVariants.{Not, Buf, Tri}
-use Rattle.logic_four.specs.Gates.{gate_value}
-use Rattle.logic_four.specs.Kinds.{AllowsOperands}
-use Rattle.logic_four.specs.Folds.{takes_many, base_kind}
-use Rattle.logic_four.proofs.lemmas.FoldLemmas.{front}
-use Rattle.logic_four.proofs.lemmas.KindLemmas.{some_operands}
+use Rattle.std.specs.{Prelude.IsTrue, List.fold}
+use Rattle.logic_four.specs.declared.{V4.V4, Kind.Kind, Kind.TheVariants.Not, Kind.TheVariants.Buf, Kind.TheVariants.Tri}
+use Rattle.logic_four.specs.{Gates.gate_value, Kinds.AllowsOperands, Folds.takes_many, Folds.base_kind}
+use Rattle.logic_four.proofs.lemmas.{FoldLemmas.front, KindLemmas.some_operands}
 use Rattle.lane_planes.specs.Joins.{first_of, join_of, answer_of, JoinsOneByOne}
 
 -- a gate of one operand

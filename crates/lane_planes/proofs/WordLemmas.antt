@@ -1,11 +1,8 @@
 -- The bits of words that stand for planes: each word operation at one lane.
 use Rattle.std.proofs.Common.{◌≡◌, ◌∙◌, ℕ, ◌+◌, ◌-◌, ◌%◌, ◌^◌, ◌<◌, bit_and, bit_or, w32, refl, ap, ap₂, arith}
-use Rattle.std.specs.Prelude.{min, max}
-use Rattle.std.specs.Int.{bit_at}
-use Rattle.std.specs.Int.RustNames.{bit_xor}
-use Rattle.std.specs.Int.Bits.{and_lt}
-use Rattle.std.proofs.lemmas.Nat.{or_lt, xor_lt, and_le_l}
 use Rattle.std.proofs.lemmas.Nat.Bits.{bit_at_and, bit_at_or, bit_at_xor, bit_at_not, bit_at_ones, bit_at-zero}
+use Rattle.std.proofs.lemmas.Nat.{or_lt, xor_lt, and_le_l}
+use Rattle.std.specs.{Prelude.min, Prelude.max, Int.bit_at, Int.RustNames.bit_xor, Int.Bits.and_lt}
 use Rattle.limits.specs.declared.TheConstants.{LANES}
 use Rattle.lane_planes.specs.declared.planes.Planes.{Planes}
 

@@ -2,8 +2,8 @@
 -- that or its inverse.
 use Rattle.std.specs.Prelude.{◌^◌, ◌-◌, ℕ, Bool, true, false, if◌then◌else◌}
 use Rattle.limits.specs.declared.TheConstants.{LANES}
-use Rattle.logic_four.specs.declared.Kind.{Kind}
 use Rattle.logic_four.specs.declared.Kind.TheVariants.{And, Nand, Or, Nor, Xor, Xnor, Not, Buf, Tri, Bus}
+use Rattle.logic_four.specs.declared.Kind.{Kind}
 
 -- the kind inverts its operands
 abbrev pub turns_operands : Kind → Bool

@@ -2,13 +2,8 @@
 -- what stands so far, and what the kind makes of that at the end.
 use Rattle.std.specs.Prelude.{◌≡◌, ◌+◌, List, [], ◌∷◌, length}
 use Rattle.std.specs.List.{fold}
-use Rattle.logic_four.specs.declared.V4.{V4}
-use Rattle.logic_four.specs.declared.Kind.{Kind}
 use Rattle.logic_four.specs.declared.Kind.TheVariants.{And, Nand, Or, Nor, Xor, Xnor, Not, Buf, Tri, Bus}
-use Rattle.logic_four.specs.Values.{settled, inverse}
-use Rattle.logic_four.specs.Gates.{gate_value}
-use Rattle.logic_four.specs.Kinds.{AllowsOperands}
-use Rattle.logic_four.specs.Folds.{base_kind}
+use Rattle.logic_four.specs.{declared.V4.V4, declared.Kind.Kind, Values.settled, Values.inverse, Gates.gate_value, Kinds.AllowsOperands, Folds.base_kind}
 
 -- the first operand: TRI and BUS take it as it is, and all others settle it
 abbrev pub first_of : Kind → V4 → V4

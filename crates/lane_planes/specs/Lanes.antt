@@ -2,9 +2,7 @@
 use Rattle.std.specs.Prelude.{◌≡◌, ℕ, ◌+◌, ◌*◌, ◌<◌, if◌then◌else◌}
 use Rattle.std.specs.Int.{bit_at}
 use Rattle.limits.specs.declared.TheConstants.{LANES}
-use Rattle.logic_four.specs.declared.V4.{V4}
-use Rattle.logic_four.specs.Values.{value_of}
-use Rattle.logic_four.specs.Gates.{is_known}
+use Rattle.logic_four.specs.{declared.V4.V4, Values.value_of, Gates.is_known}
 use Rattle.lane_planes.specs.declared.planes.Planes.{Planes}
 
 -- the value of a lane

@@ -3,9 +3,8 @@
 ghost use Rattle.std.specs.Prelude.{◌≡◌, ◌∷◌, [], ◌<◌, ◌^◌, ℕ, true};
 ghost use Rattle.limits.specs.declared.TheConstants.{LANES};
 ghost use Rattle.logic_four.specs.Gates.{gate_value};
-ghost use Rattle.lane_planes.specs.Lanes.{lane_of};
-ghost use Rattle.lane_planes.specs.code.Formula.{is_usual};
 ghost use Rattle.lane_planes.specs.Formula.{turns_operands, turns_answer, is_parity, mask_of};
+ghost use Rattle.lane_planes.specs.{Lanes.lane_of, code.Formula.is_usual};
 
 use crate::gates::{answered, first_operand, joined};
 use crate::{ALL, PairForm, Planes};

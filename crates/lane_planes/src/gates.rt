@@ -3,10 +3,8 @@
 ghost use Rattle.std.specs.Prelude.{◌≡◌, ◌∷◌, [], ◌-◌, ◌<◌, ◌≤◌, ℕ, take};
 ghost use Rattle.std.specs.List.{fold};
 ghost use Rattle.limits.specs.declared.TheConstants.{LANES};
-ghost use Rattle.logic_four.specs.Kinds.{AllowsOperands};
-ghost use Rattle.logic_four.specs.Gates.{gate_value};
-ghost use Rattle.lane_planes.specs.Lanes.{lane_of};
-ghost use Rattle.lane_planes.specs.Joins.{first_of, join_of, answer_of};
+ghost use Rattle.logic_four.specs.{Kinds.AllowsOperands, Gates.gate_value};
+ghost use Rattle.lane_planes.specs.{Lanes.lane_of, Joins.first_of, Joins.join_of, Joins.answer_of};
 
 use crate::Planes;
 use crate::formula::{gate_two, pair_form};

@@ -1,8 +1,7 @@
 //! Laws of planes. None of these functions does anything.
 
 ghost use Rattle.std.specs.Prelude.{◌≡◌};
-ghost use Rattle.lane_planes.specs.Lanes.{AreAlike};
-ghost use Rattle.lane_planes.specs.Joins.{JoinsOneByOne};
+ghost use Rattle.lane_planes.specs.{Lanes.AreAlike, Joins.JoinsOneByOne};
 
 use crate::Planes;
 

@@ -2,8 +2,8 @@
 
 ghost use Rattle.std.specs.Prelude.{◌≡◌, ◌∷◌, [], ◌<◌, ℕ};
 ghost use Rattle.limits.specs.declared.TheConstants.{LANES};
-ghost use Rattle.logic_four.specs.Values.{settled, inverse};
 ghost use Rattle.logic_four.specs.Gates.{and_value, or_value, xor_value, bus_value, tri_value};
+ghost use Rattle.logic_four.specs.Values.{settled, inverse};
 ghost use Rattle.lane_planes.specs.Lanes.{lane_of, forced_value};
 
 use crate::{ALL, Planes};

@@ -3,8 +3,7 @@
 ghost use Rattle.std.specs.Prelude.{◌≡◌, ◌<◌, ℕ, IsTrue};
 ghost use Rattle.limits.specs.declared.TheConstants.{LANES};
 ghost use Rattle.func_table.specs.Entries.{entry_for};
-ghost use Rattle.lane_planes.specs.Lanes.{lane_of};
-ghost use Rattle.lane_planes.specs.Forms.{IsForm};
+ghost use Rattle.lane_planes.specs.{Lanes.lane_of, Forms.IsForm};
 
 use crate::Planes;
 use crate::gates::gate_planes;

@@ -1,27 +1,19 @@
 -- The cells of a run: how many there are, and that they are those of the reference simulation.
 use Rattle.std.proofs.Common.{◌≡◌, ◌∙◌, ℕ, suc, ◌+◌, ◌*◌, ◌<◌, ◌≤◌, Bool, List, [], ◌∷◌, ◌++◌, length, take, drop, get_or, cond, refl, sym, ap, arith}
-use Rattle.std.specs.Prelude.{Some, slice_get}
-use Rattle.std.specs.List.{count_by, flat_map, range_with_len}
-use Rattle.std.proofs.lemmas.List.{length-append, length-map, ext_get_or}
-use Rattle.std.proofs.lemmas.List.Sums.{sum_by-cons}
-use Rattle.std.proofs.lemmas.Option.{slice_get_within}
+use Rattle.std.proofs.lemmas.{List.length-append, List.length-map, List.ext_get_or, List.Sums.sum_by-cons, Option.slice_get_within}
+use Rattle.std.specs.{Prelude.Some, Prelude.slice_get, List.count_by, List.flat_map, List.range_with_len}
 use Rattle.image_defs.specs.declared.image.Image.{Image}
 use Rattle.large_run.specs.Summaries.{counts_of, is_zero, is_one, is_undefined, is_high_impedance}
+use Rattle.large_run.specs.{code.Rows.cells_in, Runs.cells_to}
 use Rattle.large_run.proofs.SummaryLemmas.{total}
 use Rattle.list_laws.proofs.Maps.{flat_map_at}
-use Rattle.logic_four.specs.declared.V4.{V4}
 use Rattle.logic_four.specs.declared.V4.TheVariants.{Zero, One, Undef, HighZ}
+use Rattle.logic_four.specs.declared.V4.{V4}
 use Rattle.machine_run.specs.Shown.{AreShown}
-use Rattle.net_defs.specs.declared.netlist.Netlist.{Netlist}
-use Rattle.net_defs.specs.declared.stimulus.Stimulus.{Stimulus}
-use Rattle.net_defs.specs.declared.timing.Timing.{Timing}
-use Rattle.net_defs.specs.declared.trace.CellRow.{CellRow}
-use Rattle.net_defs.specs.Time.{cycle_count}
-use Rattle.net_defs.specs.Trace.{cells_of}
+use Rattle.net_defs.specs.declared.{netlist.Netlist.Netlist, stimulus.Stimulus.Stimulus, timing.Timing.Timing, trace.CellRow.CellRow}
+use Rattle.net_defs.specs.{Time.cycle_count, Trace.cells_of}
 use Rattle.port_host.specs.Rows.{printed_sources}
 use Rattle.yse_compile.specs.Compiled.{ShowsReference}
-use Rattle.large_run.specs.code.Rows.{cells_in}
-use Rattle.large_run.specs.Runs.{cells_to}
 
 -- ---- how many there are
 

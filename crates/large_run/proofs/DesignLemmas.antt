@@ -1,38 +1,22 @@
 -- What the run of a large design rests on.
 use Rattle.std.proofs.Common.{◌≡◌, ◌∙◌, ℕ, ◌+◌, ◌-◌, ◌^◌, ◌<◌, ◌≤◌, List, length, map, cond, sym, ap, subst, arith, min}
+use Rattle.std.proofs.lemmas.List.{Sums.sum_by-append, FromFn.length-map-range_with_len}
 use Rattle.limits.specs.declared.TheConstants.{MAX_LARGE_CYCLES}
-use Rattle.std.specs.Prelude.{Some, slice_get}
-use Rattle.std.specs.List.{range_with_len}
-use Rattle.std.proofs.lemmas.List.Sums.{sum_by-append}
-use Rattle.std.proofs.lemmas.List.FromFn.{length-map-range_with_len}
-use Rattle.image_defs.specs.declared.image.PortImage.{PortImage}
-use Rattle.image_defs.specs.Places.{host_of}
-use Rattle.large_run.specs.declared.summary.Summary.{Summary}
-use Rattle.large_run.specs.Draws.{draw}
-use Rattle.large_run.specs.Summaries.{counts_of, summary_text}
+use Rattle.std.specs.{Prelude.Some, Prelude.slice_get, List.range_with_len}
+use Rattle.image_defs.specs.{declared.image.PortImage.PortImage, Places.host_of}
 use Rattle.large_run.specs.Large.{gate_driver, gate_signal, gate_state, head_count, input_signal, kind_at, kind_number, large_netlist, large_signals, operands, operand_count, large_printed}
-use Rattle.large_run.proofs.ValidLemmas.{not_input}
-use Rattle.list_laws.proofs.Maps.{sum_none_of}
-use Rattle.list_laws.proofs.Members.{member_at}
+use Rattle.large_run.specs.{declared.summary.Summary.Summary, Draws.draw, Summaries.counts_of, Summaries.summary_text, declared.design.Design.Design}
+use Rattle.large_run.specs.{code.Designs.IsDesign, code.Rows.cells_in, Runs.cells_to, Runs.summary_of, Runs.IsSummaryOf}
+use Rattle.large_run.specs.Setting.{large_machine, large_timing}
+use Rattle.large_run.proofs.{ValidLemmas.not_input, CellLemmas.cells_few, CellLemmas.cells_shown}
+use Rattle.list_laws.proofs.{Maps.sum_none_of, Members.member_at}
 use Rattle.logic_four.specs.declared.V4.{V4}
 use Rattle.machine_run.specs.Shown.{AreShown}
-use Rattle.net_defs.specs.declared.netlist.Netlist.{Netlist}
-use Rattle.net_defs.specs.declared.netlist.Signal.{Signal}
-use Rattle.net_defs.specs.declared.stimulus.Stimulus.{Stimulus}
-use Rattle.net_defs.specs.declared.trace.CellRow.{CellRow}
-use Rattle.net_defs.specs.Reference.{IsSimulation}
-use Rattle.net_defs.specs.Time.{cycle_count}
-use Rattle.net_defs.specs.Valid.{input_count, is_input}
+use Rattle.net_defs.specs.declared.{netlist.Netlist.Netlist, netlist.Signal.Signal, stimulus.Stimulus.Stimulus, trace.CellRow.CellRow}
+use Rattle.net_defs.specs.{Reference.IsSimulation, Time.cycle_count, Valid.input_count, Valid.is_input}
 use Rattle.node_defs.specs.WellFormed.{column_count}
 use Rattle.port_host.specs.Rows.{printed_sources}
-use Rattle.yse_compile.specs.declared.compiler.Compiled.{Compiled}
-use Rattle.yse_compile.specs.Compiled.{IsCompiled, ShowsReference}
-use Rattle.large_run.specs.declared.design.Design.{Design}
-use Rattle.large_run.specs.code.Designs.{IsDesign}
-use Rattle.large_run.specs.code.Rows.{cells_in}
-use Rattle.large_run.specs.Runs.{cells_to, summary_of, IsSummaryOf}
-use Rattle.large_run.proofs.CellLemmas.{cells_few, cells_shown}
-use Rattle.large_run.specs.Setting.{large_machine, large_timing}
+use Rattle.yse_compile.specs.{declared.compiler.Compiled.Compiled, Compiled.IsCompiled, Compiled.ShowsReference}
 
 -- ---- the netlist
 

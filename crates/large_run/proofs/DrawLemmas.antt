@@ -1,13 +1,11 @@
 -- Draws one after another.
 use Rattle.std.proofs.Common.{◌≡◌, ◌∙◌, inl, inr, ℕ, zero, suc, ◌+◌, ◌%◌, nat_le, if◌then◌else◌, List, [], ◌∷◌, ◌++◌, length, map, min, ◌-◌, refl, sym, ap, arith, add-one}
+use Rattle.std.proofs.lemmas.{Bool.cases_Bool, List.append_assoc, List.FromFn.map-range_with_len_more, List.FromFn.length-map-range_with_len}
 use Rattle.std.specs.List.{range_with_len}
-use Rattle.std.proofs.lemmas.Bool.{cases_Bool}
-use Rattle.std.proofs.lemmas.List.{append_assoc}
-use Rattle.std.proofs.lemmas.List.FromFn.{map-range_with_len_more, length-map-range_with_len}
 use Rattle.logic_four.specs.declared.V4.{V4}
 use Rattle.net_defs.specs.declared.netlist.Signal.{Signal}
-use Rattle.large_run.specs.Draws.{next_state, draw, IsState}
 use Rattle.large_run.specs.Large.{kind_number, kind_at, driver_by, gate_driver, operand_count, head_count, operands, gate_draws, gate_state, input_signal, gate_signal, large_signals, large_printed, drawn_value, drawn_values}
+use Rattle.large_run.specs.Draws.{next_state, draw, IsState}
 
 pub draw_none : (s : ℕ) → draw s 0 ≡ s
 unfolding draw

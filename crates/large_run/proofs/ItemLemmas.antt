@@ -1,24 +1,16 @@
 -- A large netlist has no more items than signals.
 use Rattle.std.proofs.Common.{◌≡◌, ◌≢◌, ◌∙◌, ℕ, ◌+◌, ◌<◌, ◌≤◌, Bool, List, length, get_or, refl, sym, ap, subst, arith}
+use Rattle.std.proofs.lemmas.Option.{slice_get_within, get_or_from_slice_get}
 use Rattle.limits.specs.declared.TheConstants.{MAX_LARGE_GATES}
 use Rattle.std.specs.Prelude.{Option, Some, None, slice_get}
-use Rattle.std.proofs.lemmas.Option.{slice_get_within, get_or_from_slice_get}
 use Rattle.list_laws.proofs.Members.{member_at}
 use Rattle.large_run.specs.Large.{large_netlist, large_signals}
 use Rattle.large_run.proofs.ValidLemmas.{large_counts, length-large}
 use Rattle.func_table.specs.declared.table.Table.{Table}
-use Rattle.net_defs.specs.declared.netlist.Driver.{Driver}
+use Rattle.net_defs.specs.declared.{netlist.Driver.Driver, netlist.Netlist.Netlist, netlist.Signal.Signal, timing.Timing.Timing}
+use Rattle.net_defs.specs.{Steps.is_late, Valid.operand_count}
 use Rattle.net_defs.specs.declared.netlist.Driver.TheVariants as driver
-use Rattle.net_defs.specs.declared.netlist.Netlist.{Netlist}
-use Rattle.net_defs.specs.declared.netlist.Signal.{Signal}
-use Rattle.net_defs.specs.declared.timing.Timing.{Timing}
-use Rattle.net_defs.specs.Steps.{is_late}
-use Rattle.net_defs.specs.Valid.{operand_count}
-use Rattle.node_defs.specs.declared.items.Item.{Item}
-use Rattle.node_defs.specs.declared.items.ItemName.{ItemName}
-use Rattle.node_defs.specs.declared.items.NodeNet.{NodeNet}
-use Rattle.node_defs.specs.Groups.{helper_count}
-use Rattle.node_defs.specs.Items.{IsItemOf}
+use Rattle.node_defs.specs.{declared.items.Item.Item, declared.items.ItemName.ItemName, declared.items.NodeNet.NodeNet, Groups.helper_count, Items.IsItemOf}
 use Rattle.node_defs.specs.Order.{AreItems}
 use Rattle.node_defs.proofs.lemmas.NameLemmas.{name_at, name_there, name_same, NamedItem, named_item}
 use Rattle.node_map.proofs.lemmas.ShapeLemmas.{narrow_groups}

@@ -1,18 +1,12 @@
 -- There is one summary of a run.
 use Rattle.std.proofs.Common.{◌≡◌, ◌∙◌, ℕ, List, length, refl, ap, arith}
 use Rattle.std.specs.List.{range_with_len, sum_by}
-use Rattle.large_run.specs.declared.summary.Summary.{Summary}
-use Rattle.large_run.specs.Summaries.{counts_of}
+use Rattle.large_run.specs.{declared.summary.Summary.Summary, Summaries.counts_of}
 use Rattle.logic_four.specs.declared.V4.{V4}
-use Rattle.node_defs.specs.declared.items.NodeNet.{NodeNet}
-use Rattle.node_defs.specs.Same.{AreSameItems}
-use Rattle.node_defs.specs.WellFormed.{IsWellFormed}
-use Rattle.plan_defs.specs.declared.plan.Homes.{Homes}
-use Rattle.plan_defs.specs.Homes.{AreHomes}
-use Rattle.plan_defs.specs.Readers.{IsReaderList}
+use Rattle.node_defs.specs.{declared.items.NodeNet.NodeNet, Same.AreSameItems, WellFormed.IsWellFormed}
+use Rattle.plan_defs.specs.{declared.plan.Homes.Homes, Homes.AreHomes, Readers.IsReaderList}
 use Rattle.plan_text.specs.Counted.{AreCrossings}
-use Rattle.yse_compile.proofs.lemmas.SamePlans.{reader_kept}
-use Rattle.yse_compile.proofs.lemmas.SwitchExists.{readers_there}
+use Rattle.yse_compile.proofs.lemmas.{SamePlans.reader_kept, SwitchExists.readers_there}
 
 -- the same items have as many crossings
 pub crossings_kept : (one other : NodeNet) (homes : Homes) (count : ℕ) → AreSameItems one other → AreSameItems other one → AreCrossings one homes count → AreCrossings other homes count

@@ -1,14 +1,11 @@
 -- Cells that are counted one after another.
 use Rattle.std.proofs.Common.{◌≡◌, ◌∙◌, ℕ, ◌+◌, ◌<◌, List, [], ◌∷◌, ◌++◌, length, take, get_or, cond, add-zero, refl, sym, ap, arith}
-use Rattle.std.specs.List.{count_by}
-use Rattle.std.specs.Prelude.{Bool}
-use Rattle.std.proofs.lemmas.List.{take_more, append_assoc}
-use Rattle.std.proofs.lemmas.List.Sums.{sum_by-append}
-use Rattle.logic_four.specs.declared.V4.{V4}
+use Rattle.std.proofs.lemmas.List.{take_more, append_assoc, Sums.sum_by-append}
+use Rattle.std.specs.{List.count_by, Prelude.Bool}
 use Rattle.logic_four.specs.declared.V4.TheVariants.{Zero, One, Undef, HighZ}
-use Rattle.large_run.specs.declared.summary.CellCounts.{CellCounts}
+use Rattle.logic_four.specs.declared.V4.{V4}
 use Rattle.large_run.specs.Summaries.{is_zero, is_one, is_undefined, is_high_impedance, counts_of}
-use Rattle.large_run.specs.code.Summaries.{with_cell}
+use Rattle.large_run.specs.{declared.summary.CellCounts.CellCounts, code.Summaries.with_cell}
 
 abbrev pub total : CellCounts → ℕ
 total counts = counts.zeros + counts.ones + counts.xs + counts.zs

@@ -1,40 +1,24 @@
 -- The nodes of a netlist use no more tables than there are of one to four operands.
 use Rattle.std.proofs.Common.{◌≡◌, ◌≢◌, ◌∙◌, ◌⊎◌, inl, inr, ℕ, zero, suc, ◌+◌, ◌-◌, ◌<◌, ◌≤◌, Bool, List, [], ◌∷◌, length, get_or, refl, sym, ap, subst, arith}
-use Rattle.std.specs.Prelude.{Option, Some, None, slice_get}
 use Rattle.std.proofs.lemmas.Bool.{cases_lt, le-ltb, lt-ltb, eqb-true}
-use Rattle.std.proofs.lemmas.List.Elements.{Contains-get_or}
-use Rattle.std.proofs.lemmas.List.Kept.{AllPairs-from_increasing}
-use Rattle.std.proofs.lemmas.Option.{slice_get_within, get_or_from_slice_get}
+use Rattle.std.proofs.lemmas.{List.Elements.Contains-get_or, List.Kept.AllPairs-from_increasing, Option.slice_get_within, Option.get_or_from_slice_get}
+use Rattle.std.specs.Prelude.{Option, Some, None, slice_get}
 use Rattle.list_laws.proofs.Options.{one_some}
-use Rattle.logic_four.specs.declared.Kind.{Kind}
 use Rattle.logic_four.specs.declared.Kind.TheVariants.{And, Nand, Or, Nor, Xor, Xnor, Not, Buf, Tri, Bus}
-use Rattle.logic_four.specs.Folds.{base_kind}
-use Rattle.logic_four.specs.Kinds.{AllowsOperands}
+use Rattle.logic_four.specs.{declared.Kind.Kind, Folds.base_kind, Kinds.AllowsOperands}
 use Rattle.logic_four.proofs.lemmas.KindLemmas.{some_operands}
-use Rattle.func_table.specs.declared.table.Table.{Table}
-use Rattle.func_table.specs.Entries.{AreAlike, IsTableOf}
+use Rattle.func_table.specs.{declared.table.Table.Table, Entries.AreAlike, Entries.IsTableOf}
 pub use Rattle.func_table.proofs.EntryLemmas.{same_entries}
-use Rattle.net_defs.specs.declared.netlist.Driver.{Driver}
-use Rattle.net_defs.specs.declared.netlist.Driver.TheVariants as driver
-use Rattle.net_defs.specs.declared.netlist.Netlist.{Netlist}
-use Rattle.net_defs.specs.declared.timing.Timing.{Timing}
-use Rattle.net_defs.specs.Steps.{is_late}
+use Rattle.net_defs.specs.{declared.netlist.Driver.Driver, declared.netlist.Netlist.Netlist, declared.timing.Timing.Timing, Steps.is_late}
 use Rattle.net_defs.specs.Valid.{IsDrivable, IsValid}
-use Rattle.node_defs.specs.declared.groups.Group.{Group}
-use Rattle.node_defs.specs.declared.items.Feeds.{Feeds}
-use Rattle.node_defs.specs.declared.items.Item.TheVariants.{Input, BlockBit, Node}
-use Rattle.node_defs.specs.declared.items.ItemName.{ItemName}
-use Rattle.node_defs.specs.declared.items.NodeNet.{NodeNet}
-use Rattle.node_defs.specs.Groups.{groups, group_at, helper_count}
-use Rattle.node_defs.specs.Items.{IsItemOf, IsNode}
-use Rattle.node_defs.specs.Order.{AreItems}
-use Rattle.node_defs.proofs.lemmas.EarlierLemmas.{table_there}
-use Rattle.node_defs.proofs.lemmas.NameLemmas.{name_at, named_item}
+use Rattle.net_defs.specs.declared.netlist.Driver.TheVariants as driver
+use Rattle.node_defs.specs.declared.{groups.Group.Group, items.Feeds.Feeds}
+use Rattle.node_defs.specs.declared.items.{Item.TheVariants.Input, Item.TheVariants.BlockBit, Item.TheVariants.Node, ItemName.ItemName, NodeNet.NodeNet}
+use Rattle.node_defs.specs.{Groups.groups, Groups.group_at, Groups.helper_count, Items.IsItemOf, Items.IsNode, Order.AreItems}
+use Rattle.node_defs.proofs.lemmas.{EarlierLemmas.table_there, NameLemmas.name_at, NameLemmas.named_item}
 use Rattle.node_map.specs.code.Nodes.{node_kind}
-use Rattle.node_map.proofs.MadeNodeLemmas.{kind_allowed}
-use Rattle.node_map.proofs.lemmas.ShapeLemmas.{group_few, some_groups}
-use Rattle.plan_defs.specs.declared.plan.Homes.{Homes}
-use Rattle.plan_defs.specs.Tables.{UsesTable, UsesTables}
+use Rattle.node_map.proofs.{MadeNodeLemmas.kind_allowed, lemmas.ShapeLemmas.group_few, lemmas.ShapeLemmas.some_groups}
+use Rattle.plan_defs.specs.{declared.plan.Homes.Homes, Tables.UsesTable, Tables.UsesTables}
 use Rattle.plan_defs.proofs.lemmas.CountLemmas.{few_below, few_partners}
 
 -- ---- the kinds of tables

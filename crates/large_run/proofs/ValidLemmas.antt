@@ -1,32 +1,18 @@
 -- The large netlist is valid and has no loop, and its stimulus is valid.
 use Rattle.std.proofs.Common.{◌≡◌, ◌∙◌, ◌⊎◌, inl, inr, ℕ, zero, suc, ◌+◌, ◌-◌, ◌*◌, ◌%◌, ◌^◌, ◌<◌, ◌≤◌, nat_le, true, false, List, [], ◌∷◌, ◌++◌, length, map, min, get_or, decimal, replicate, refl, sym, ap, subst, arith, Option, Some, None, slice_get, IsTrue, mod-lt}
+use Rattle.std.proofs.lemmas.Option.{slice_get_within, slice_get_cases, slice_get-get_or, get_or_from_slice_get}
+use Rattle.std.proofs.lemmas.{Bool.cases_Bool, Bool.cases_lt, Bool.and_from, Fmt.decimal_by_steps, Fmt.decimal_injective, Fmt.length-decimal-le}
+use Rattle.std.proofs.lemmas.List.{get_or_append_left, get_or-append-add, length-append, Concat.flat_map-cons, Folds.list_all-append}
+use Rattle.std.proofs.lemmas.List.{FromFn.length-map-range_with_len, FromFn.get_or-map-range_with_len, Sums.sum_by-cons}
 use Rattle.limits.specs.declared.TheConstants.{MAX_LARGE_CYCLES, MAX_LARGE_GATES}
 use Rattle.std.specs.List.{All, Contains, list_all, flat_map, sum_by, range_with_len}
-use Rattle.std.proofs.lemmas.Bool.{cases_Bool, cases_lt, and_from}
-use Rattle.std.proofs.lemmas.Fmt.{decimal_by_steps, decimal_injective, length-decimal-le}
-use Rattle.std.proofs.lemmas.List.{get_or_append_left, get_or-append-add, length-append}
-use Rattle.std.proofs.lemmas.List.Concat.{flat_map-cons}
-use Rattle.std.proofs.lemmas.List.Folds.{list_all-append}
-use Rattle.std.proofs.lemmas.List.FromFn.{length-map-range_with_len, get_or-map-range_with_len}
-use Rattle.std.proofs.lemmas.List.Sums.{sum_by-cons}
-use Rattle.std.proofs.lemmas.Option.{slice_get_within, slice_get_cases, slice_get-get_or, get_or_from_slice_get}
-use Rattle.logic_four.specs.declared.Kind.{Kind}
-use Rattle.logic_four.specs.Kinds.{AllowsOperands, is_any_number}
-use Rattle.text_lines.specs.Bytes.{is_visible}
-use Rattle.text_lines.specs.Names.{IsName, is_name_byte, is_mark}
-use Rattle.net_defs.specs.declared.netlist.Netlist.{Netlist}
-use Rattle.net_defs.specs.declared.netlist.Signal.{Signal}
-use Rattle.net_defs.specs.declared.netlist.Block.{Block}
-use Rattle.net_defs.specs.declared.stimulus.StimRow.{StimRow}
-use Rattle.net_defs.specs.declared.stimulus.Stimulus.{Stimulus}
-use Rattle.net_defs.specs.declared.timing.Timing.{Timing}
-use Rattle.net_defs.specs.Loops.{IsCircle, waits_for, gate_operands}
-use Rattle.net_defs.specs.Steps.{is_late}
-use Rattle.net_defs.specs.Time.{cycle_count}
+use Rattle.logic_four.specs.{declared.Kind.Kind, Kinds.AllowsOperands, Kinds.is_any_number}
+use Rattle.text_lines.specs.{Bytes.is_visible, Names.IsName, Names.is_name_byte, Names.is_mark}
 use Rattle.net_defs.specs.Valid.{IsValid, IsValidStimulus, IsSignal, IsDrivable, is_input, operand_count}
+use Rattle.net_defs.specs.declared.{netlist.Netlist.Netlist, netlist.Signal.Signal, netlist.Block.Block, stimulus.StimRow.StimRow, stimulus.Stimulus.Stimulus}
+use Rattle.net_defs.specs.{declared.timing.Timing.Timing, Loops.IsCircle, Loops.waits_for, Loops.gate_operands, Steps.is_late, Time.cycle_count}
+use Rattle.large_run.specs.Large.{kind_number, kind_at, driver_by, gate_driver, gate_state, head_count, operands, input_signal, gate_signal, large_signals, large_printed, large_netlist, drawn_values, drawn_row, large_stimulus, operand_count as count_of}
 use Rattle.large_run.specs.Draws.{draw}
-use Rattle.large_run.specs.Large.{kind_number, kind_at, driver_by, gate_driver, gate_state, head_count, operands, input_signal, gate_signal, large_signals, large_printed, large_netlist, drawn_values, drawn_row, large_stimulus}
-use Rattle.large_run.specs.Large.{operand_count as count_of}
 use Rattle.large_run.proofs.DrawLemmas.{length-operands}
 
 -- ---- names

@@ -1,15 +1,10 @@
 -- The large netlist of so many gates and the rows of its stimulus, draw by draw.
 use Rattle.std.specs.Prelude.{ℕ, zero, suc, ◌+◌, ◌-◌, ◌*◌, ◌%◌, ◌==◌, nat_le, min, if◌then◌else◌, List, [], ◌∷◌, ◌++◌, map, Option, Some, None, slice_get, slice_index, codes, decimal}
 use Rattle.std.specs.List.{range_with_len}
-use Rattle.logic_four.specs.declared.V4.{V4}
-use Rattle.logic_four.specs.declared.V4.TheVariants.{Zero, One}
-use Rattle.logic_four.specs.declared.Kind.{Kind}
 use Rattle.logic_four.specs.declared.Kind.TheVariants.{And, Nand, Or, Nor, Xor, Not, Buf}
-use Rattle.net_defs.specs.declared.netlist.Netlist.{Netlist}
-use Rattle.net_defs.specs.declared.netlist.Signal.{Signal}
-use Rattle.net_defs.specs.declared.netlist.Driver.{Driver}
-use Rattle.net_defs.specs.declared.netlist.Driver.TheVariants.{Input, Gate, Dff}
-use Rattle.net_defs.specs.declared.stimulus.StimRow.{StimRow}
+use Rattle.logic_four.specs.declared.{V4.V4, V4.TheVariants.Zero, V4.TheVariants.One, Kind.Kind}
+use Rattle.net_defs.specs.declared.netlist.{Netlist.Netlist, Signal.Signal, Driver.Driver}
+use Rattle.net_defs.specs.declared.{netlist.Driver.TheVariants.Input, netlist.Driver.TheVariants.Gate, netlist.Driver.TheVariants.Dff, stimulus.StimRow.StimRow}
 use Rattle.net_defs.specs.declared.stimulus.Stimulus.{Stimulus}
 use Rattle.large_run.specs.Draws.{draw}
 

@@ -1,23 +1,13 @@
 -- The summary of the run of a large netlist.
 use Rattle.std.specs.Prelude.{◌≡◌, ℕ, ◌+◌, ◌-◌, List, length}
 use Rattle.std.specs.List.{flat_map, range_with_len}
-use Rattle.large_run.specs.declared.summary.Summary.{Summary}
-use Rattle.large_run.specs.Large.{gate_state, large_netlist, large_stimulus}
-use Rattle.large_run.specs.Summaries.{counts_of, summary_text}
+use Rattle.large_run.specs.{declared.summary.Summary.Summary, Large.gate_state, Large.large_netlist, Large.large_stimulus}
+use Rattle.large_run.specs.{Summaries.counts_of, Summaries.summary_text, Setting.large_machine, Setting.large_timing}
 use Rattle.logic_four.specs.declared.V4.{V4}
-use Rattle.net_defs.specs.declared.netlist.Netlist.{Netlist}
-use Rattle.net_defs.specs.declared.timing.Timing.{Timing}
-use Rattle.net_defs.specs.Reference.{IsSimulation}
-use Rattle.net_defs.specs.Steps.{State}
-use Rattle.net_defs.specs.Trace.{cells_of}
-use Rattle.node_defs.specs.declared.items.NodeNet.{NodeNet}
-use Rattle.node_defs.specs.Order.{AreItems}
-use Rattle.plan_defs.specs.declared.plan.Homes.{Homes}
-use Rattle.plan_defs.specs.declared.plan.Plan.{Plan}
-use Rattle.plan_defs.specs.Picks.{ArePicked}
-use Rattle.plan_defs.specs.Slots.{IsFirstFitPlan}
+use Rattle.net_defs.specs.{declared.netlist.Netlist.Netlist, declared.timing.Timing.Timing, Reference.IsSimulation, Steps.State, Trace.cells_of}
+use Rattle.node_defs.specs.{declared.items.NodeNet.NodeNet, Order.AreItems}
+use Rattle.plan_defs.specs.{declared.plan.Homes.Homes, declared.plan.Plan.Plan, Picks.ArePicked, Slots.IsFirstFitPlan}
 use Rattle.plan_text.specs.Counted.{AreCrossings}
-use Rattle.large_run.specs.Setting.{large_machine, large_timing}
 
 -- the printed cells of the first so many cycles, one cycle after the other
 abbrev pub cells_to : Netlist → Timing → List State → ℕ → List V4

@@ -1,9 +1,8 @@
 -- The summary of a run of a large design.
 use Rattle.std.specs.Prelude.{ℕ, Bool, true, false, List, ◌++◌, count_by, codes, decimal}
-use Rattle.logic_four.specs.declared.V4.{V4}
 use Rattle.logic_four.specs.declared.V4.TheVariants.{Zero, One, Undef, HighZ}
-use Rattle.large_run.specs.declared.summary.CellCounts.{CellCounts}
-use Rattle.large_run.specs.declared.summary.Summary.{Summary}
+use Rattle.logic_four.specs.declared.V4.{V4}
+use Rattle.large_run.specs.declared.summary.{CellCounts.CellCounts, Summary.Summary}
 
 abbrev pub is_zero : V4 → Bool
 is_zero Zero = true

@@ -1,9 +1,7 @@
 //! The printed cells of a run, counted by value.
 
 ghost use Rattle.std.specs.Prelude.{◌≡◌, ◌<◌, ◌^◌, IfOk, length};
-ghost use Rattle.large_run.specs.Summaries.{counts_of};
-ghost use Rattle.large_run.specs.Summaries.{summary_text as text_of};
-ghost use Rattle.large_run.specs.code.Rows.{cells_in};
+ghost use Rattle.large_run.specs.{Summaries.counts_of, Summaries.summary_text as text_of, code.Rows.cells_in};
 
 use crate::{CellCounts, Summary, summary_text};
 use net_defs::CellRow;

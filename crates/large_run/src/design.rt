@@ -2,14 +2,11 @@
 
 ghost use Rattle.std.specs.Prelude.{◌≡◌, ◌≤◌, IfOk};
 ghost use Rattle.limits.specs.declared.TheConstants.{MAX_LARGE_CYCLES, MAX_LARGE_GATES};
-ghost use Rattle.large_run.specs.Large.{large_netlist};
-ghost use Rattle.net_defs.specs.declared.stimulus.Stimulus.{Stimulus as Rows};
-ghost use Rattle.net_defs.specs.Valid.{IsValid};
-ghost use Rattle.yse_compile.specs.Compiled.{IsCompiled, ShowsReference};
-ghost use Rattle.yse_compile.specs.Designs.{DesignFits};
-ghost use Rattle.yse_compile.specs.declared.compiler.CompNo.TheVariants as no;
-ghost use Rattle.large_run.specs.code.Designs.{AreFigures, IsDesign};
+ghost use Rattle.large_run.specs.{Large.large_netlist, code.Designs.AreFigures, code.Designs.IsDesign};
 ghost use Rattle.large_run.specs.Setting.{large_machine as machine_is, large_timing as timing_is};
+ghost use Rattle.net_defs.specs.{declared.stimulus.Stimulus.Stimulus as Rows, Valid.IsValid};
+ghost use Rattle.yse_compile.specs.{Compiled.IsCompiled, Compiled.ShowsReference, Designs.DesignFits};
+ghost use Rattle.yse_compile.specs.declared.compiler.CompNo.TheVariants as no;
 
 use crate::law::large_fits;
 use crate::machine::{large_machine, large_timing};

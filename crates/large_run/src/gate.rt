@@ -2,8 +2,8 @@
 
 ghost use Rattle.std.specs.Prelude.{◌≡◌, ◌+◌, ◌%◌, ◌<◌, ◌≤◌, nat_le, if◌then◌else◌, IfOk, OnOk, length};
 ghost use Rattle.limits.specs.declared.TheConstants.{MAX_LARGE_GATES};
-ghost use Rattle.large_run.specs.Draws.{draw as draw_of};
 ghost use Rattle.large_run.specs.Large.{kind_at, gate_draws, driver_by, operands as operands_of, gate_driver as driver_of};
+ghost use Rattle.large_run.specs.Draws.{draw as draw_of};
 
 use crate::draws::Draws;
 use logic_four::Kind;

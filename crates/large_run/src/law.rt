@@ -2,18 +2,12 @@
 
 ghost use Rattle.std.specs.Prelude.{◌≡◌, ◌+◌, ◌<◌, ◌≤◌, ℕ, List, length};
 ghost use Rattle.limits.specs.declared.TheConstants.{MAX_LARGE_GATES};
-ghost use Rattle.large_run.specs.Large.{large_netlist};
+ghost use Rattle.large_run.specs.{Large.large_netlist, Runs.IsSummaryOf, Setting.large_machine, Setting.large_timing};
 ghost use Rattle.machine_text.specs.declared.machine.Machine.{Machine};
-ghost use Rattle.net_defs.specs.declared.netlist.Netlist.{Netlist};
-ghost use Rattle.net_defs.specs.declared.timing.Timing.{Timing};
-ghost use Rattle.net_defs.specs.Valid.{IsValid};
-ghost use Rattle.node_defs.specs.declared.items.NodeNet.{NodeNet};
-ghost use Rattle.node_defs.specs.Order.{AreItems};
-ghost use Rattle.plan_defs.specs.declared.plan.Homes.{Homes};
-ghost use Rattle.plan_defs.specs.Tables.{UsesTables, table_limit};
+ghost use Rattle.net_defs.specs.{declared.netlist.Netlist.Netlist, declared.timing.Timing.Timing, Valid.IsValid};
+ghost use Rattle.node_defs.specs.{declared.items.NodeNet.NodeNet, Order.AreItems};
+ghost use Rattle.plan_defs.specs.{declared.plan.Homes.Homes, Tables.UsesTables, Tables.table_limit};
 ghost use Rattle.yse_compile.specs.Designs.{DesignFits, LacksFunctions};
-ghost use Rattle.large_run.specs.Runs.{IsSummaryOf};
-ghost use Rattle.large_run.specs.Setting.{large_machine, large_timing};
 
 use node_defs::law::one_list;
 use node_map::law::items_exist;

@@ -1,13 +1,11 @@
 //! The large netlist.
 
 ghost use Rattle.std.specs.Prelude.{◌≡◌, ◌≤◌, ◌++◌, ℕ, List as Items, All, IfOk, OnOk, decimal, map};
-ghost use Rattle.limits.specs.declared.TheConstants.{MAX_LARGE_GATES};
 ghost use Rattle.std.specs.List.{range_with_len};
-ghost use Rattle.net_defs.specs.declared.timing.Timing.{Timing};
-ghost use Rattle.net_defs.specs.Loops.{IsCircle};
-ghost use Rattle.net_defs.specs.Valid.{IsValid, operand_count};
-ghost use Rattle.large_run.specs.Draws.{IsState};
+ghost use Rattle.limits.specs.declared.TheConstants.{MAX_LARGE_GATES};
+ghost use Rattle.net_defs.specs.{declared.timing.Timing.Timing, Loops.IsCircle, Valid.IsValid, Valid.operand_count};
 ghost use Rattle.large_run.specs.Large.{input_signal, gate_signal, gate_state, large_printed, large_netlist};
+ghost use Rattle.large_run.specs.Draws.{IsState};
 
 use crate::draws::Draws;
 use crate::gate::gate_driver;

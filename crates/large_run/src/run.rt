@@ -4,10 +4,8 @@ ghost use Rattle.std.specs.Prelude.{◌≡◌, ◌⊎◌, ◌<◌, ◌≤◌, �
 ghost use Rattle.limits.specs.declared.TheConstants.{MAX_LARGE_CYCLES, MAX_LARGE_GATES};
 ghost use Rattle.crew_run.specs.Crews.{CanTell};
 ghost use Rattle.machine_run.specs.Visits.{AreInPlace, AreVisitsOf};
-ghost use Rattle.large_run.specs.code.Designs.{IsDesign};
+ghost use Rattle.large_run.specs.{code.Designs.IsDesign, Runs.IsSummaryOf, Setting.large_machine};
 ghost use Rattle.machine_text.specs.Machines.{ports_of};
-ghost use Rattle.large_run.specs.Runs.{IsSummaryOf};
-ghost use Rattle.large_run.specs.Setting.{large_machine};
 
 use crate::counts::summed_up;
 use crate::design::{Design, large_design};

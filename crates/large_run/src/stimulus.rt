@@ -2,11 +2,8 @@
 
 ghost use Rattle.std.specs.Prelude.{◌≡◌, ◌<◌, ◌≤◌, IfOk, OnOk};
 ghost use Rattle.limits.specs.declared.TheConstants.{MAX_LARGE_CYCLES};
-ghost use Rattle.net_defs.specs.Valid.{IsValidStimulus};
-ghost use Rattle.net_defs.specs.Time.{cycle_count};
-ghost use Rattle.large_run.specs.Draws.{IsState};
-ghost use Rattle.large_run.specs.Draws.{draw as draw_of};
-ghost use Rattle.large_run.specs.Large.{drawn_value, drawn_values, large_stimulus};
+ghost use Rattle.net_defs.specs.{Valid.IsValidStimulus, Time.cycle_count};
+ghost use Rattle.large_run.specs.{Draws.IsState, Draws.draw as draw_of, Large.drawn_value, Large.drawn_values, Large.large_stimulus};
 
 use crate::draws::Draws;
 use logic_four::V4;

@@ -2,9 +2,8 @@
 
 ghost use Rattle.std.specs.Prelude.{◌≡◌, ◌+◌, ◌<◌, ◌^◌, ◌-◌, ◌++◌, [], List as Items, IfOk, OnOk, length, decimal};
 ghost use Rattle.logic_four.specs.declared.V4.{V4 as Value};
-ghost use Rattle.large_run.specs.Summaries.{counts_of, plan_line, cells_line};
+ghost use Rattle.large_run.specs.Summaries.{counts_of, plan_line, cells_line, summary_text as text_of};
 ghost use Rattle.large_run.specs.code.Summaries.{with_cell};
-ghost use Rattle.large_run.specs.Summaries.{summary_text as text_of};
 
 use itoa::Buffer;
 use logic_four::V4;

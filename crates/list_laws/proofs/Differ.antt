@@ -1,8 +1,7 @@
 -- Lists of different numbers.
 use Rattle.std.proofs.Common.{◌≢◌, ℕ, ◌<◌, List, [], ◌∷◌, ◌++◌, length, get_or, subst, arith}
+use Rattle.std.proofs.lemmas.List.{get_or_append_left, get_or_default, length_push, Quantifiers.all_pairs_push}
 use Rattle.std.specs.List.{AllPairs}
-use Rattle.std.proofs.lemmas.List.{get_or_append_left, get_or_default, length_push}
-use Rattle.std.proofs.lemmas.List.Quantifiers.{all_pairs_push}
 
 -- two different places of a list of different numbers
 pub differ_at : (xs : List ℕ) (i j : ℕ) → AllPairs (λ s t. s ≢ t) xs → i < j → j < length xs → get_or xs i 0 ≢ get_or xs j 0

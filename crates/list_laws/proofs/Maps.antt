@@ -1,9 +1,7 @@
 -- Lists made of the members of a list, and their sums.
 use Rattle.list_laws.proofs.Places.{split_at}
 use Rattle.std.proofs.Common.{◌≡◌, ℕ, suc, List, [], ◌∷◌, ◌++◌, append-nil, length, take, get_or, sym, ap, ◌∙◌, refl, arith, map, ◌+◌, ◌<◌, drop}
-use Rattle.std.proofs.lemmas.List.{take_more}
-use Rattle.std.proofs.lemmas.List.Concat.{flat_map-append}
-use Rattle.std.proofs.lemmas.List.Sums.{sum_by-cons}
+use Rattle.std.proofs.lemmas.List.{take_more, Concat.flat_map-append, Sums.sum_by-cons}
 use Rattle.std.specs.List.{flat_map, enumerate_from, sum_by}
 
 -- the number of one more item

@@ -1,10 +1,9 @@
 -- What holds of all members of a list.
 use Rattle.std.proofs.Common.{◌≡◌, ℕ, List, [], ◌∷◌, ◌++◌, slice_get, Some, subst, map, ◌≢◌, ◌∙◌, zero, suc, ◌<◌, length, take, set, get_or, Option, None, append-nil, refl, sym, ap, arith}
 use Rattle.std.proofs.lemmas.List.Elements.{All-nil, All-cons, All-head, All-tail, All-append}
-use Rattle.std.proofs.lemmas.Option.{slice_get_within, get_or_from_slice_get, slice_get-map}
+use Rattle.std.proofs.lemmas.{Option.slice_get_within, Option.get_or_from_slice_get, Option.slice_get-map, List.get_or-map, List.take_all, List.drop_all}
 use Rattle.std.specs.List.{flat_map, All, Contains, refill}
 use Rattle.std.specs.Option.{option_map}
-use Rattle.std.proofs.lemmas.List.{get_or-map, take_all, drop_all}
 use Rattle.list_laws.proofs.Options.{one_some}
 
 -- what holds of all members holds of the one at a place

@@ -1,11 +1,8 @@
 -- Numbers in a row.
 use Rattle.std.proofs.Common.{◌≡◌, ◌⊎◌, ℕ, zero, suc, ◌≤◌, List, get_or, slice_get, Some, sym, ap, ◌∙◌, inl, inr, arith, ◌+◌, ◌<◌, replicate, [], ◌∷◌, ◌++◌, refl, subst}
-use Rattle.std.proofs.lemmas.Bool.{cases_lt}
 use Rattle.std.proofs.lemmas.List.{get_or_past, get_or-replicate, length-replicate, map-id}
+use Rattle.std.proofs.{lemmas.Bool.cases_lt, Math.Numerals.add-one, lemmas.List.FromFn.map-range_with_len_more, lemmas.List.Sums.sum_by_push}
 use Rattle.std.specs.List.{range_with_len, sum_by}
-use Rattle.std.proofs.Math.Numerals.{add-one}
-use Rattle.std.proofs.lemmas.List.FromFn.{map-range_with_len_more}
-use Rattle.std.proofs.lemmas.List.Sums.{sum_by_push}
 
 -- a number up to another is below it, or is it
 pub last_or : (i n : ℕ) → i < n + 1 → (i < n) ⊎ (i ≡ n)

@@ -1,9 +1,6 @@
 -- Tests of the members of a list: whether one passes, the first that does, and how many do.
 use Rattle.std.proofs.Common.{◌≡◌, ℕ, zero, suc, ◌≤◌, false, List, [], ◌∷◌, ◌++◌, length, take, get_or, Some, None, sym, ap, ◌∙◌, refl, arith, Bool, true, cond, map, ◌+◌, ◌<◌, not, ◌||◌}
-use Rattle.std.proofs.lemmas.Bool.{cond-false, or_parts, cond-true}
-use Rattle.std.proofs.lemmas.List.{length-map}
-use Rattle.std.proofs.lemmas.List.Folds.{list_any_more}
-use Rattle.std.proofs.lemmas.List.Sums.{sum_by-cons}
+use Rattle.std.proofs.lemmas.{Bool.cond-false, Bool.or_parts, Bool.cond-true, List.length-map, List.Folds.list_any_more, List.Sums.sum_by-cons}
 use Rattle.std.specs.List.{find, list_any, count_by, position_or_len, position, prefix_len}
 
 -- a test of what f gives

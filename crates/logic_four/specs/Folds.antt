@@ -2,11 +2,8 @@
 -- operands, and NAND, NOR and XNOR are the inverses of such gates.
 use Rattle.std.specs.Prelude.{◌≡◌, ◌∷◌, ◌++◌, Bool, true, false, List, [], map, IsTrue}
 use Rattle.std.specs.List.{flat_map}
-use Rattle.logic_four.specs.declared.V4.{V4}
-use Rattle.logic_four.specs.declared.Kind.{Kind}
 use Rattle.logic_four.specs.declared.Kind.TheVariants.{And, Nand, Or, Nor, Xor, Xnor, Not, Buf, Tri, Bus}
-use Rattle.logic_four.specs.Values.{inverse}
-use Rattle.logic_four.specs.Gates.{gate_value}
+use Rattle.logic_four.specs.{declared.V4.V4, declared.Kind.Kind, Values.inverse, Gates.gate_value}
 
 -- a gate of this kind may have any number of operands, as far as the profile goes
 abbrev pub takes_many : Kind → Bool

@@ -1,11 +1,9 @@
 -- What each kind of gate answers, said by what stands among its operands.
 use Rattle.std.specs.Prelude.{◌%◌, ◌==◌, ◌||◌, Bool, true, false, if◌then◌else◌, List, count_by}
 use Rattle.std.specs.List.{list_any, list_all}
-use Rattle.logic_four.specs.declared.V4.{V4}
 use Rattle.logic_four.specs.declared.V4.TheVariants.{Zero, One, Undef, HighZ}
-use Rattle.logic_four.specs.declared.Kind.{Kind}
 use Rattle.logic_four.specs.declared.Kind.TheVariants.{And, Nand, Or, Nor, Xor, Xnor, Not, Buf, Tri, Bus}
-use Rattle.logic_four.specs.Values.{settled, inverse, value_at}
+use Rattle.logic_four.specs.{declared.V4.V4, declared.Kind.Kind, Values.settled, Values.inverse, Values.value_at}
 
 -- the value is 0
 abbrev pub is_zero : V4 → Bool

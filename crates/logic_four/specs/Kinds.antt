@@ -2,8 +2,8 @@
 use Rattle.std.specs.Prelude.{◌≡◌, ◌⊎◌, ℕ, ◌==◌, ◌&&◌, Bool, nat_le, if◌then◌else◌, List, Option, Some, None, IsTrue, codes}
 use Rattle.std.specs.Str.{str_eq_ignore_ascii_case}
 use Rattle.limits.specs.declared.TheConstants.{MAX_GATE_OPERANDS}
-use Rattle.logic_four.specs.declared.Kind.{Kind}
 use Rattle.logic_four.specs.declared.Kind.TheVariants.{And, Nand, Or, Nor, Xor, Xnor, Not, Buf, Tri, Bus}
+use Rattle.logic_four.specs.declared.Kind.{Kind}
 
 -- the word of a kind in a canonical text
 abbrev pub kind_word : Kind → List ℕ

@@ -2,9 +2,7 @@
 -- before. The words are a list in address order, each a list of values with bit 0 first.
 use Rattle.std.specs.Prelude.{◌≡◌, ℕ, ◌+◌, ◌*◌, ◌^◌, if◌then◌else◌, List, [], ◌∷◌, length, map, replicate, slice_set, slice_index_or, Option, Some, None, All}
 use Rattle.std.specs.List.{list_all}
-use Rattle.logic_four.specs.declared.V4.{V4}
-use Rattle.logic_four.specs.declared.V4.TheVariants.{Zero, One, Undef}
-use Rattle.logic_four.specs.Values.{settled}
+use Rattle.logic_four.specs.{declared.V4.V4, declared.V4.TheVariants.Zero, declared.V4.TheVariants.One, declared.V4.TheVariants.Undef, Values.settled}
 use Rattle.logic_four.specs.Gates.{is_known, is_one}
 
 -- the number that bits of 0 and 1 say, bit 0 first and the least significant

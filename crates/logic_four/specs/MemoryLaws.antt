@@ -1,9 +1,7 @@
 -- What follows from the definition of the memory act, in the words of a user of a memory.
 use Rattle.std.specs.Prelude.{◌≡◌, ◌≢◌, ℕ, ◌^◌, ◌<◌, List, [], ◌∷◌, ◌++◌, length, map, replicate, slice_get, Some, None}
-use Rattle.logic_four.specs.declared.V4.{V4}
-use Rattle.logic_four.specs.declared.V4.TheVariants.{Zero, One, Undef}
-use Rattle.logic_four.specs.Values.{settled}
 use Rattle.logic_four.specs.Memory.{address_of, undefined_word, read_word, memory_act, initial_words, HasShape}
+use Rattle.logic_four.specs.{declared.V4.V4, declared.V4.TheVariants.Zero, declared.V4.TheVariants.One, declared.V4.TheVariants.Undef, Values.settled}
 
 -- bit 0 of an address is its least significant
 abbrev pub BitZeroComesFirst : Type 0

@@ -1,7 +1,6 @@
 -- Values packed as codes of two bits into words of 64 bits, 32 to a word, the first of them lowest.
 use Rattle.std.specs.Prelude.{ℕ, ◌*◌, ◌/◌, ◌%◌, ◌^◌, List, slice_index}
-use Rattle.logic_four.specs.declared.V4.{V4}
-use Rattle.logic_four.specs.Values.{value_of}
+use Rattle.logic_four.specs.{declared.V4.V4, Values.value_of}
 
 -- the code in place i of a word: bit 2 * i and the next
 abbrev pub code_in : ℕ → ℕ → ℕ

@@ -1,7 +1,7 @@
 -- The four values: settling, inverting, their characters and their codes.
 use Rattle.std.specs.Prelude.{ℕ, ◌==◌, ◌||◌, if◌then◌else◌, List, slice_index_or, Option, Some, None}
-use Rattle.logic_four.specs.declared.V4.{V4}
 use Rattle.logic_four.specs.declared.V4.TheVariants.{Zero, One, Undef, HighZ}
+use Rattle.logic_four.specs.declared.V4.{V4}
 
 -- the value that a reader takes: high impedance counts as undefined
 abbrev pub settled : V4 → V4

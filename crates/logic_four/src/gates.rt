@@ -1,9 +1,8 @@
 //! What a gate answers for its operands.
 
-ghost use Rattle.std.specs.Prelude.{◌≡◌, count_by};
-ghost use Rattle.std.specs.List.{list_any, list_all};
-ghost use Rattle.logic_four.specs.Values.{settled, inverse, value_at};
+ghost use Rattle.std.specs.{Prelude.◌≡◌, Prelude.count_by, List.list_any, List.list_all};
 ghost use Rattle.logic_four.specs.Gates.{is_zero, is_one, is_known, is_high_z, and_value, or_value, is_odd_parity, xor_value, is_driven_zero, is_driven_one, bus_value, tri_value, gate_value};
+ghost use Rattle.logic_four.specs.Values.{settled, inverse, value_at};
 
 use crate::values::{not, settle};
 use crate::{Kind, V4};

@@ -1,8 +1,7 @@
 //! Values packed into words of 64 bits, 32 to a word.
 
 ghost use Rattle.std.specs.Prelude.{◌≡◌, ◌≢◌, ◌*◌, ◌<◌, ℕ, length, slice_index};
-ghost use Rattle.logic_four.specs.Values.{code_of, value_of};
-ghost use Rattle.logic_four.specs.Packed.{code_in, packed_value};
+ghost use Rattle.logic_four.specs.{Values.code_of, Values.value_of, Packed.code_in, Packed.packed_value};
 
 use crate::{V4, code, decoded};
 

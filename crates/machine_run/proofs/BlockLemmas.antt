@@ -2,16 +2,13 @@
 use Rattle.std.proofs.Common.{List, ap, arith, length, sym, ◌*◌, ◌+◌, ◌<◌, ◌∙◌, ◌≡◌}
 use Rattle.std.proofs.Math.Nat.{mul-lt-mul_of_pos_left}
 use Rattle.crew_run.specs.declared.worker.Worker.{Worker}
-use Rattle.image_defs.specs.Places.{host_of}
-use Rattle.image_defs.specs.WellFormed.{IsWellFormed}
+use Rattle.image_defs.specs.{Places.host_of, WellFormed.IsWellFormed}
 use Rattle.net_defs.specs.Time.{cycle_count}
-use Rattle.port_run.specs.Pairs.{placed}
+use Rattle.port_run.specs.{Pairs.placed, declared.seated.Seated.Seated}
 use Rattle.port_run.specs.contracts.seated.SeatedStepper.TheImpl as seated
-use Rattle.port_run.specs.declared.seated.Seated.{Seated}
 use Rattle.port_walk.specs.Placed.{CanGoOn, block_end}
 use Rattle.machine_run.specs.Crews.{CrewView, at_block_end, in_next_block, rows_at_end, turns_made}
-use Rattle.machine_run.specs.Dealt.{AreDealt, IsSeatOf}
-use Rattle.machine_run.specs.code.Moves.{AreMoved, HasEnded, HasGoneOn}
+use Rattle.machine_run.specs.{Dealt.AreDealt, Dealt.IsSeatOf, code.Moves.AreMoved, code.Moves.HasEnded, code.Moves.HasGoneOn}
 use Rattle.machine_run.proofs.MoveLemmas.{dealt_moved}
 
 -- ---- to the end of a block

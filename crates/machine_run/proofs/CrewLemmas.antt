@@ -1,13 +1,9 @@
 -- The turns that a crew has made, and those that are left.
 use Rattle.std.proofs.Common.{ap, arith, ℕ, ◌*◌, ◌+◌, ◌-◌, ◌/◌, ◌^◌, ◌∙◌, ◌≡◌, ◌≤◌}
-use Rattle.std.proofs.Math.Nat.{mul-div_cancel_left, mul-le-mul_left, mul-zero}
-use Rattle.std.proofs.lemmas.Nat.{mul-le}
-use Rattle.image_defs.specs.WellFormed.{IsWellFormed}
-use Rattle.image_defs.specs.declared.image.Image.{Image}
+use Rattle.std.proofs.{Math.Nat.mul-div_cancel_left, Math.Nat.mul-le-mul_left, Math.Nat.mul-zero, lemmas.Nat.mul-le}
+use Rattle.image_defs.specs.{WellFormed.IsWellFormed, declared.image.Image.Image}
 use Rattle.limits.specs.declared.TheConstants.{MAX_CYCLES, MAX_UNITS}
-use Rattle.net_defs.specs.Time.{cycle_count}
-use Rattle.net_defs.specs.Valid.{IsValidStimulus}
-use Rattle.net_defs.specs.declared.stimulus.Stimulus.{Stimulus}
+use Rattle.net_defs.specs.{Time.cycle_count, Valid.IsValidStimulus, declared.stimulus.Stimulus.Stimulus}
 use Rattle.slot_words.specs.plain.Words.{turns_of}
 use Rattle.machine_run.specs.Crews.{CrewView, at_block_end, at_first, rows_at_end, turns_left, turns_made}
 

@@ -1,8 +1,6 @@
 -- Ports are dealt to workers one by one, the last one first.
 use Rattle.std.proofs.Common.{List, Some, [], ap, arith, inl, inr, length, refl, set, slice_get, subst, sym, ℕ, ◌%◌, ◌++◌, ◌+◌, ◌<◌, ◌⊎◌, ◌∙◌, ◌∷◌, ◌≡◌, ◌≢◌, ◌≤◌}
-use Rattle.std.proofs.lemmas.Bool.{cases_eq, cases_lt}
-use Rattle.std.proofs.lemmas.List.{length-set, length_push}
-use Rattle.std.proofs.lemmas.Option.{slice_get_within}
+use Rattle.std.proofs.lemmas.{Bool.cases_eq, Bool.cases_lt, List.length-set, List.length_push, Option.slice_get_within}
 use Rattle.list_laws.proofs.Places.{at_front, one_there, seam_at}
 use Rattle.crew_run.proofs.lemmas.Places.{each_push, member_at, one_some, set_other, set_same}
 use Rattle.crew_run.specs.declared.worker.Worker.{Worker}

@@ -4,11 +4,8 @@ use Rattle.std.proofs.lemmas.Option.{get_or_from_slice_get}
 use Rattle.crew_run.specs.declared.worker.Worker.{Worker}
 use Rattle.image_defs.specs.Places.{host_of}
 use Rattle.port_host.specs.Rows.{HostView}
-use Rattle.port_run.specs.Pairs.{IsHostOf}
-use Rattle.port_run.specs.declared.seated.Seated.{Seated}
-use Rattle.machine_run.specs.Crews.{CrewView, IsHostOfCrew}
-use Rattle.machine_run.specs.Dealt.{HasPortOf, IsSeatOf}
-use Rattle.machine_run.specs.code.Dealt.{HasPort}
+use Rattle.port_run.specs.{Pairs.IsHostOf, declared.seated.Seated.Seated}
+use Rattle.machine_run.specs.{Crews.CrewView, Crews.IsHostOfCrew, Dealt.HasPortOf, Dealt.IsSeatOf, code.Dealt.HasPort}
 use Rattle.machine_run.proofs.CrewLemmas.{rows_before}
 
 -- the first member of what stands at the place of the last port's worker is the one of that port

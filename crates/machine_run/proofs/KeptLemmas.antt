@@ -1,26 +1,19 @@
 -- What a crew keeps as its ports come to the end of a block, and as they go on.
 use Rattle.std.proofs.Common.{List, Option, Some, ap, arith, drop, length, min, slice_get, subst, sym, take, ℕ, ◌++◌, ◌+◌, ◌<◌, ◌∙◌, ◌≡◌, ◌≤◌}
 use Rattle.std.proofs.lemmas.List.{take_at}
-use Rattle.crew_run.specs.Lending.{AllCanRunWith, AllHaveRunWith}
+use Rattle.crew_run.specs.{Lending.AllCanRunWith, Lending.AllHaveRunWith, declared.worker.Worker.Worker}
 use Rattle.crew_run.specs.declared.gate.Gate as gate
-use Rattle.crew_run.specs.declared.worker.Worker.{Worker}
 use Rattle.image_defs.specs.Places.{host_of}
 use Rattle.net_defs.specs.Time.{cycle_count}
-use Rattle.port_run.specs.Pairs.{placed}
+use Rattle.port_run.specs.{Pairs.placed, declared.seated.Seated.Seated}
 use Rattle.port_run.specs.contracts.seated.SeatedStepper.TheImpl as seated
-use Rattle.port_run.specs.declared.seated.Seated.{Seated}
 use Rattle.port_walk.specs.Placed.{CanGoOn}
 use Rattle.slot_words.specs.plain.Words.{turns_of}
 use Rattle.machine_run.specs.Crews.{CrewView, at_block_end, rows_at_end, turns_left, turns_made}
-use Rattle.machine_run.specs.Dealt.{AreDealt, IsSeatOf}
-use Rattle.machine_run.specs.Kept.{IsKept, view_of}
-use Rattle.machine_run.specs.code.Moves.{AreMoved, HasGoneOn}
-use Rattle.machine_run.specs.Visits.{AllCanTellTurns, AreInPlace, AreVisitsBetween}
-use Rattle.machine_run.specs.declared.crew.Crew.TheInside.{Inside}
+use Rattle.machine_run.specs.{Dealt.AreDealt, Dealt.IsSeatOf, Kept.IsKept, Kept.view_of, code.Moves.AreMoved, code.Moves.HasGoneOn}
+use Rattle.machine_run.specs.{Visits.AllCanTellTurns, Visits.AreInPlace, Visits.AreVisitsBetween, declared.crew.Crew.TheInside.Inside}
 use Rattle.machine_run.proofs.BlockLemmas.{can_go_on, dealt_at_end, dealt_in_next}
-use Rattle.machine_run.proofs.CrewLemmas.{made_few, made_more, turns_few}
-use Rattle.machine_run.proofs.MoveLemmas.{have_ended}
-use Rattle.machine_run.proofs.lemmas.RoomLemmas.{can_tell_on}
+use Rattle.machine_run.proofs.{CrewLemmas.made_few, CrewLemmas.made_more, CrewLemmas.turns_few, MoveLemmas.have_ended, lemmas.RoomLemmas.can_tell_on}
 use Rattle.machine_run.proofs.lemmas.VisitLemmas.{can_run, have_visits, in_place}
 
 -- what was lent and given back stands in the place of what was there

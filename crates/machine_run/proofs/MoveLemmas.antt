@@ -1,17 +1,11 @@
 -- Members that move one by one, and what is dealt once all have moved.
 use Rattle.std.proofs.Common.{List, Option, Some, ap, arith, inl, inr, length, refl, set, slice_get, subst, sym, ℕ, ◌%◌, ◌+◌, ◌<◌, ◌∙◌, ◌≡◌, ◌≤◌}
-use Rattle.std.proofs.lemmas.Bool.{cases_eq}
-use Rattle.std.proofs.lemmas.List.{length-set}
-use Rattle.std.proofs.lemmas.Option.{slice_get_within}
+use Rattle.std.proofs.lemmas.{Bool.cases_eq, List.length-set, Option.slice_get_within}
 use Rattle.crew_run.proofs.lemmas.Places.{beside, member_at, one_some, set_other, set_same}
-use Rattle.crew_run.specs.Crews.{HasRun}
-use Rattle.crew_run.specs.Lending.{AllHaveRunWith, lent}
-use Rattle.crew_run.specs.code.Phases.{Each}
+use Rattle.crew_run.specs.{Crews.HasRun, Lending.AllHaveRunWith, Lending.lent, code.Phases.Each, declared.worker.Worker.Worker}
 use Rattle.crew_run.specs.declared.gate.Gate as gate
 use Rattle.crew_run.specs.declared.stepper.Stepper as stepper
-use Rattle.crew_run.specs.declared.worker.Worker.{Worker}
-use Rattle.machine_run.specs.Dealt.{AreDealtFrom, HasPortOf, IsMember}
-use Rattle.machine_run.specs.code.Moves.{AreFirst, AreMoved, HasEnded}
+use Rattle.machine_run.specs.{Dealt.AreDealtFrom, Dealt.HasPortOf, Dealt.IsMember, code.Moves.AreFirst, code.Moves.AreMoved, code.Moves.HasEnded}
 
 module _ {X : Type 0} (R : X → X → Type 0) (xs : List X) where
   pub first_none : AreFirst R 0 xs xs

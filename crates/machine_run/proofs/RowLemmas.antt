@@ -1,19 +1,12 @@
 -- Rows that are filled one after another.
 use Rattle.std.proofs.Common.{List, Some, ap, arith, inl, inr, length, set, slice_get, sym, ℕ, ◌+◌, ◌<◌, ◌∙◌, ◌≡◌, ◌≤◌}
-use Rattle.std.proofs.lemmas.Bool.{cases_eq}
-use Rattle.std.proofs.lemmas.List.{length-set}
-use Rattle.std.proofs.lemmas.Option.{slice_get_within}
-use Rattle.list_laws.proofs.Members.{set_other, set_same}
-use Rattle.list_laws.proofs.Places.{one_there}
-use Rattle.image_defs.specs.Frames.{shown}
-use Rattle.image_defs.specs.declared.image.Image.{Image}
-use Rattle.logic_four.specs.Values.{value_at}
-use Rattle.logic_four.specs.declared.V4.{V4}
-use Rattle.net_defs.specs.declared.stimulus.Stimulus.{Stimulus}
-use Rattle.net_defs.specs.declared.trace.CellRow.{CellRow}
+use Rattle.std.proofs.lemmas.{Bool.cases_eq, List.length-set, Option.slice_get_within}
+use Rattle.list_laws.proofs.{Members.set_other, Members.set_same, Places.one_there}
+use Rattle.image_defs.specs.{Frames.shown, declared.image.Image.Image}
+use Rattle.logic_four.specs.{Values.value_at, declared.V4.V4}
+use Rattle.net_defs.specs.declared.{stimulus.Stimulus.Stimulus, trace.CellRow.CellRow}
 use Rattle.port_host.specs.Rows.{printed_sources}
-use Rattle.machine_run.specs.Shown.{AreShown}
-use Rattle.machine_run.specs.code.Shown.{AreFilled, AreWide}
+use Rattle.machine_run.specs.{Shown.AreShown, code.Shown.AreFilled, code.Shown.AreWide}
 
 module _ (image : Image) (stimulus : Stimulus) (cycles n : ℕ) (rows : List CellRow) where
   module _ (row : CellRow) (cells : List V4) (within : n < length rows) (is : row.cells ≡ cells) (long : length cells ≡ length (printed_sources image)) where

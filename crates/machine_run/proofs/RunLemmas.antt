@@ -3,22 +3,16 @@ use Rattle.std.proofs.Common.{Err, List, Ok, Option, Result, ap, arith, length, 
 use Rattle.std.proofs.Math.Nat.{mul-le-mul_left, mul-zero}
 use Rattle.std.specs.Io.KnownBytes.{append_known}
 use Rattle.crew_run.specs.declared.gate.Gate as gate
-use Rattle.edge_io.proofs.lemmas.Taking.{append_known-append}
-use Rattle.edge_io.proofs.lemmas.WritingLemmas.{append_known-nil}
-use Rattle.edge_io.specs.Writing.{Takes, TakesProperPrefix}
-use Rattle.edge_io.specs.declared.writing.WriteNo.{WriteNo}
+use Rattle.edge_io.proofs.lemmas.{Taking.append_known-append, WritingLemmas.append_known-nil}
+use Rattle.edge_io.specs.{Writing.Takes, Writing.TakesProperPrefix, declared.writing.WriteNo.WriteNo}
 use Rattle.image_defs.specs.declared.image.Image.{Image}
 use Rattle.machine_run.proofs.lemmas.TurnLemmas.{in_place_none, in_place_on, visits_none, visits_on}
 use Rattle.machine_run.specs.Crews.{CrewView, at_block_end, at_first, in_next_block, rows_at_end, turns_left, turns_made}
 use Rattle.machine_run.specs.Visits.{AllCanTellTurns, AreInPlace, AreVisitsBetween, AreVisitsOf}
-use Rattle.net_defs.specs.Time.{cycle_count}
-use Rattle.net_defs.specs.Trace.{header_line}
-use Rattle.net_defs.specs.declared.netlist.Netlist.{Netlist}
-use Rattle.net_defs.specs.declared.stimulus.Stimulus.{Stimulus}
-use Rattle.slot_words.specs.plain.Words.{turns_of}
-use Rattle.machine_run.specs.Blocks.{cycles_of_blocks, turns_of_blocks, window_of}
-use Rattle.machine_run.specs.Lines.{cells_shown, lines_between}
+use Rattle.machine_run.specs.{Blocks.cycles_of_blocks, Blocks.turns_of_blocks, Blocks.window_of, Lines.cells_shown, Lines.lines_between}
 use Rattle.machine_run.specs.Stops.{before_block, block_lines}
+use Rattle.net_defs.specs.{Time.cycle_count, Trace.header_line, declared.netlist.Netlist.Netlist, declared.stimulus.Stimulus.Stimulus}
+use Rattle.slot_words.specs.plain.Words.{turns_of}
 
 -- a crew that has made the turns of so many cycles, and is before the block that comes after them
 abbrev pub after_cycles : Image → Stimulus → ℕ → ℕ → CrewView

@@ -2,15 +2,11 @@
 use Rattle.std.proofs.Common.{List, Option, ap, arith, length, subst, sym, ℕ, ◌∙◌, ◌≡◌, ◌≤◌}
 use Rattle.crew_run.specs.declared.gate.Gate as gate
 use Rattle.image_defs.specs.declared.image.Image.{Image}
-use Rattle.net_defs.specs.Time.{cycle_count}
-use Rattle.net_defs.specs.declared.stimulus.Stimulus.{Stimulus}
-use Rattle.net_defs.specs.declared.trace.CellRow.{CellRow}
+use Rattle.net_defs.specs.{Time.cycle_count, declared.stimulus.Stimulus.Stimulus, declared.trace.CellRow.CellRow}
 use Rattle.port_host.specs.Rows.{HostView, printed_sources, rows_done}
 use Rattle.slot_words.specs.plain.Words.{turns_of}
 use Rattle.machine_run.specs.Crews.{CrewView, IsHostOfCrew, at_block_end, at_first, rows_at_end, turns_made}
-use Rattle.machine_run.specs.Shown.{AreShown}
-use Rattle.machine_run.specs.code.Shown.{AreWide}
-use Rattle.machine_run.specs.Visits.{AreVisitsBetween, AreVisitsOf}
+use Rattle.machine_run.specs.{Shown.AreShown, code.Shown.AreWide, Visits.AreVisitsBetween, Visits.AreVisitsOf}
 use Rattle.machine_run.proofs.CrewLemmas.{none_made}
 
 module _ (image : Image) (stimulus : Stimulus) (workers window : ℕ) (crew crew' : CrewView) (first : crew ≡ at_first image stimulus workers window) (whole : cycle_count stimulus ≤ window) (run : crew' ≡ at_block_end crew) where

@@ -1,7 +1,6 @@
 -- How long blocks are.
 use Rattle.std.proofs.Common.{ap, arith, inl, inr, min, sym, ℕ, zero, suc, ◌-◌, ◌<◌, ◌^◌, ◌∙◌, ◌≡◌}
-use Rattle.std.proofs.lemmas.Bool.{cases_lt}
-use Rattle.std.proofs.lemmas.Nat.{div_below}
+use Rattle.std.proofs.lemmas.{Bool.cases_lt, Nat.div_below}
 use Rattle.limits.specs.declared.TheConstants.{MAX_CELLS}
 use Rattle.machine_run.specs.Blocks.{block_cycles}
 

@@ -5,8 +5,7 @@ use Rattle.edge_io.specs.declared.writing.WriteNo.{WriteNo}
 use Rattle.image_defs.specs.declared.image.Image.{Image}
 use Rattle.limits.specs.declared.TheConstants.{MAX_BLOCK, MAX_CELLS}
 use Rattle.machine_run.specs.Visits.{AreVisitsOf}
-use Rattle.net_defs.specs.Time.{cycle_count}
-use Rattle.net_defs.specs.declared.stimulus.Stimulus.{Stimulus}
+use Rattle.net_defs.specs.{Time.cycle_count, declared.stimulus.Stimulus.Stimulus}
 use Rattle.port_host.specs.Rows.{printed_sources}
 use Rattle.slot_words.specs.plain.Words.{turns_of}
 

@@ -1,8 +1,7 @@
 -- A crew that runs a machine in blocks of cycles, as contracts see it.
 use Rattle.std.specs.Prelude.{min, ℕ, ◌*◌, ◌+◌, ◌-◌, ◌≡◌}
 use Rattle.image_defs.specs.declared.image.Image.{Image}
-use Rattle.net_defs.specs.Time.{cycle_count}
-use Rattle.net_defs.specs.declared.stimulus.Stimulus.{Stimulus}
+use Rattle.net_defs.specs.{Time.cycle_count, declared.stimulus.Stimulus.Stimulus}
 use Rattle.port_host.specs.Rows.{HostView, rows_done}
 use Rattle.slot_words.specs.plain.Words.{turns_of}
 

@@ -1,11 +1,8 @@
 -- What holds of the fields of a crew.
 use Rattle.std.specs.Prelude.{length, ◌≡◌, ◌≤◌}
 use Rattle.image_defs.specs.WellFormed.{IsWellFormed}
-use Rattle.net_defs.specs.Time.{cycle_count}
-use Rattle.net_defs.specs.Valid.{IsValidStimulus}
-use Rattle.machine_run.specs.Crews.{CrewView, rows_at_end}
-use Rattle.machine_run.specs.Dealt.{AreDealt}
-use Rattle.machine_run.specs.declared.crew.Crew.TheInside.{Inside}
+use Rattle.net_defs.specs.{Time.cycle_count, Valid.IsValidStimulus}
+use Rattle.machine_run.specs.{Crews.CrewView, Crews.rows_at_end, Dealt.AreDealt, declared.crew.Crew.TheInside.Inside}
 
 abbrev pub view_of : {G : Type 0} → Inside G → CrewView
 view_of a = record {

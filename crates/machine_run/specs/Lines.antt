@@ -1,13 +1,9 @@
 -- The lines of a run.
 use Rattle.std.specs.Prelude.{List, ℕ, ◌+◌, ◌++◌, ◌-◌, length, map}
 use Rattle.std.specs.List.{flat_map, range_with_len}
-use Rattle.image_defs.specs.Frames.{shown}
-use Rattle.image_defs.specs.declared.image.Image.{Image}
+use Rattle.image_defs.specs.{Frames.shown, declared.image.Image.Image}
 use Rattle.logic_four.specs.declared.V4.{V4}
-use Rattle.net_defs.specs.declared.netlist.Netlist.{Netlist}
-use Rattle.net_defs.specs.declared.stimulus.Stimulus.{Stimulus}
-use Rattle.net_defs.specs.Time.{cycle_count}
-use Rattle.net_defs.specs.Trace.{cycle_line, header_line}
+use Rattle.net_defs.specs.{declared.netlist.Netlist.Netlist, declared.stimulus.Stimulus.Stimulus, Time.cycle_count, Trace.cycle_line, Trace.header_line}
 use Rattle.port_host.specs.Rows.{printed_sources}
 
 -- the cells that the image shows for a cycle, counted from 1

@@ -1,10 +1,8 @@
 -- The rows of a run.
 use Rattle.std.specs.Prelude.{List, Some, length, slice_get, ℕ, ◌+◌, ◌<◌, ◌≡◌}
-use Rattle.image_defs.specs.Frames.{shown}
-use Rattle.image_defs.specs.declared.image.Image.{Image}
+use Rattle.image_defs.specs.{Frames.shown, declared.image.Image.Image}
 use Rattle.logic_four.specs.Values.{value_at}
-use Rattle.net_defs.specs.declared.stimulus.Stimulus.{Stimulus}
-use Rattle.net_defs.specs.declared.trace.CellRow.{CellRow}
+use Rattle.net_defs.specs.declared.{stimulus.Stimulus.Stimulus, trace.CellRow.CellRow}
 use Rattle.port_host.specs.Rows.{printed_sources}
 
 -- the rows of the first cycles, one for each, with the cells that the image shows

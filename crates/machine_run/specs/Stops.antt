@@ -4,12 +4,8 @@ use Rattle.std.specs.Io.KnownBytes.{append_known}
 use Rattle.crew_run.specs.declared.gate.Gate as gate
 use Rattle.edge_io.specs.Writing.{TakesProperPrefix}
 use Rattle.image_defs.specs.declared.image.Image.{Image}
-use Rattle.machine_run.specs.Visits.{AreVisitsOf}
-use Rattle.net_defs.specs.Trace.{header_line}
-use Rattle.net_defs.specs.declared.netlist.Netlist.{Netlist}
-use Rattle.net_defs.specs.declared.stimulus.Stimulus.{Stimulus}
-use Rattle.machine_run.specs.Blocks.{cycles_of_blocks, turns_of_blocks}
-use Rattle.machine_run.specs.Lines.{cells_shown, lines_between, written_to}
+use Rattle.machine_run.specs.{Visits.AreVisitsOf, Blocks.cycles_of_blocks, Blocks.turns_of_blocks, Lines.cells_shown, Lines.lines_between, Lines.written_to}
+use Rattle.net_defs.specs.{Trace.header_line, declared.netlist.Netlist.Netlist, declared.stimulus.Stimulus.Stimulus}
 
 module _ (net : Netlist) (image : Image) (stimulus : Stimulus) where
   -- what is written once so many blocks are run: the lines of the last of them, and the header before the first

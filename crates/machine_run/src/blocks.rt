@@ -3,18 +3,13 @@
 ghost use Rattle.std.specs.Prelude.{IfOk, OnErr, Option, Some, List, length, slice_get, ℕ, ◌<◌, ◌≡◌, ◌≤◌};
 ghost use Rattle.std.specs.Io.KnownBytes.{append_known};
 ghost use Rattle.limits.specs.declared.TheConstants.{MAX_BANKS, MAX_CYCLES};
-ghost use Rattle.machine_run.specs.Blocks.{AreVisitsOfRun, window_of};
-ghost use Rattle.machine_run.specs.Lines.{bytes_of_run, cells_shown, lines_between};
-ghost use Rattle.machine_run.specs.Stops.{StopsInBlock};
+ghost use Rattle.machine_run.specs.Crews.{at_block_end, at_first, rows_at_end, turns_left, turns_made};
+ghost use Rattle.machine_run.specs.{Blocks.AreVisitsOfRun, Blocks.window_of, Lines.bytes_of_run, Lines.cells_shown, Lines.lines_between, Stops.StopsInBlock};
+ghost use Rattle.machine_run.specs.Visits.{AllCanTellTurns, AreInPlace, AreVisitsBetween};
 ghost use Rattle.crew_run.specs.Crews.{CanTell};
 ghost use Rattle.edge_io.specs.Writing.{Writes};
 ghost use Rattle.image_defs.specs.WellFormed.{IsWellFormed};
-ghost use Rattle.machine_run.specs.Crews.{at_block_end, at_first, rows_at_end, turns_left, turns_made};
-ghost use Rattle.machine_run.specs.Visits.{AllCanTellTurns, AreInPlace, AreVisitsBetween};
-ghost use Rattle.net_defs.specs.Time.{cycle_count};
-ghost use Rattle.net_defs.specs.Trace.{header_line};
-ghost use Rattle.net_defs.specs.Valid.{IsValidStimulus};
-ghost use Rattle.net_defs.specs.declared.netlist.Netlist.{Netlist};
+ghost use Rattle.net_defs.specs.{Time.cycle_count, Trace.header_line, Valid.IsValidStimulus, declared.netlist.Netlist.Netlist};
 ghost use Rattle.port_host.specs.Rows.{printed_sources};
 ghost use Rattle.trace_text.specs.Line.{HasRoom, row_room};
 

@@ -4,8 +4,7 @@ ghost use Rattle.std.specs.Prelude.{IfOk, length, min, ◌+◌, ◌<◌, ◌≡�
 ghost use Rattle.image_defs.specs.WellFormed.{IsWellFormed};
 ghost use Rattle.machine_run.specs.Crews.{IsHostOfCrew, at_block_end, at_first, in_next_block, rows_at_end, turns_left, turns_made};
 ghost use Rattle.machine_run.specs.Visits.{AllCanTellTurns, AreInPlace, AreVisitsBetween};
-ghost use Rattle.net_defs.specs.Time.{cycle_count};
-ghost use Rattle.net_defs.specs.Valid.{IsValidStimulus};
+ghost use Rattle.net_defs.specs.{Time.cycle_count, Valid.IsValidStimulus};
 ghost use Rattle.slot_words.specs.plain.Passes.{AreFirstPasses};
 
 use crate::deal::{worker_of, workers_of};

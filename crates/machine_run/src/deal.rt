@@ -1,8 +1,7 @@
 //! Members that are dealt to workers, by their ports.
 
 ghost use Rattle.std.specs.Prelude.{IfOk, OnOk, [], length, ◌%◌, ◌++◌, ◌-◌, ◌<◌, ◌∷◌, ◌≡◌, ◌≤◌, ℕ};
-ghost use Rattle.machine_run.specs.Dealt.{AreDealtFrom, ArePasses};
-ghost use Rattle.machine_run.specs.code.Dealt.{AreIdle, HasGained};
+ghost use Rattle.machine_run.specs.{Dealt.AreDealtFrom, Dealt.ArePasses, code.Dealt.AreIdle, code.Dealt.HasGained};
 
 use crew_run::{Stepper, Worker};
 use seen_list::{List, Memory};

@@ -1,8 +1,7 @@
 //! Gates for a run.
 
 ghost use Rattle.std.specs.Prelude.{IfOk, Option, Some, length, slice_get, ℕ, ◌≡◌};
-ghost use Rattle.crew_run.specs.Crews.{CanTell};
-ghost use Rattle.crew_run.specs.declared.count_gate.CountGate.{CountGate};
+ghost use Rattle.crew_run.specs.{Crews.CanTell, declared.count_gate.CountGate.CountGate};
 ghost use Rattle.machine_run.specs.Gates.{IsNew};
 
 use crew_run::{CountGate, Gate};

@@ -4,11 +4,8 @@ ghost use Rattle.std.specs.Prelude.{IfOk, OnErr, OnOk, Option, Some, length, sli
 ghost use Rattle.limits.specs.declared.TheConstants.{MAX_BANKS};
 ghost use Rattle.crew_run.specs.Crews.{CanTell};
 ghost use Rattle.image_defs.specs.WellFormed.{IsWellFormed};
-ghost use Rattle.machine_run.specs.Shown.{AreShown};
-ghost use Rattle.machine_run.specs.code.Shown.{AreWide};
-ghost use Rattle.machine_run.specs.Visits.{AreInPlace, AreVisitsOf};
-ghost use Rattle.net_defs.specs.Time.{cycle_count};
-ghost use Rattle.net_defs.specs.Valid.{IsValidStimulus};
+ghost use Rattle.machine_run.specs.{Shown.AreShown, code.Shown.AreWide, Visits.AreInPlace, Visits.AreVisitsOf};
+ghost use Rattle.net_defs.specs.{Time.cycle_count, Valid.IsValidStimulus};
 ghost use Rattle.port_host.specs.Rows.{printed_sources};
 ghost use Rattle.slot_words.specs.plain.Words.{turns_of};
 

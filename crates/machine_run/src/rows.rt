@@ -2,8 +2,7 @@
 
 ghost use Rattle.std.specs.Prelude.{IfOk, length, ◌≡◌};
 ghost use Rattle.image_defs.specs.WellFormed.{IsWellFormed};
-ghost use Rattle.machine_run.specs.Shown.{AreShown};
-ghost use Rattle.machine_run.specs.code.Shown.{AreWide};
+ghost use Rattle.machine_run.specs.{Shown.AreShown, code.Shown.AreWide};
 ghost use Rattle.port_host.specs.Rows.{printed_sources, rows_done};
 
 use image_defs::{Image, Work};

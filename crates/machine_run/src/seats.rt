@@ -1,9 +1,7 @@
 //! The members of a crew: each a port beside its crossbar.
 
 ghost use Rattle.std.specs.Prelude.{IfOk, ◌≡◌};
-ghost use Rattle.machine_run.specs.Crews.{at_first};
-ghost use Rattle.machine_run.specs.Dealt.{IsSeatOf};
-ghost use Rattle.machine_run.specs.code.Dealt.{CanSeat};
+ghost use Rattle.machine_run.specs.{Crews.at_first, Dealt.IsSeatOf, code.Dealt.CanSeat};
 
 use crate::deal::Seats;
 use image_defs::Image;
@@ -26,9 +24,7 @@ pub(crate) struct CrewSeats<'a> {
 
 impl<'a> Seats for CrewSeats<'a> {
     ghost use Rattle.std.specs.Prelude.{length};
-    ghost use Rattle.machine_run.specs.Crews.{at_first};
-    ghost use Rattle.machine_run.specs.Dealt.{IsSeatOf};
-    ghost use Rattle.machine_run.specs.code.Dealt.{CanSeat};
+    ghost use Rattle.machine_run.specs.{Crews.at_first, Dealt.IsSeatOf, code.Dealt.CanSeat};
 
     type Pass = Pass;
 

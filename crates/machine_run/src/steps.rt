@@ -3,9 +3,8 @@
 ghost use Rattle.std.specs.Prelude.{Some, slice_get, ℕ, ◌≡◌};
 ghost use Rattle.crew_run.specs.declared.worker.Worker.{Worker as Of};
 ghost use Rattle.machine_run.specs.code.Moves.{AreMoved, HasGoneOn, HaveGoneOn};
-ghost use Rattle.port_run.specs.Pairs.{placed};
+ghost use Rattle.port_run.specs.{Pairs.placed, declared.seated.Seated.Seated as Seat};
 ghost use Rattle.port_walk.specs.Placed.{CanGoOn};
-ghost use Rattle.port_run.specs.declared.seated.Seated.{Seated as Seat};
 
 use crew_run::Worker;
 use port_run::Seated;

@@ -1,15 +1,11 @@
 -- Digits whose first is no zero are one list for each value.
 use Rattle.std.proofs.Common.{◌≡◌, ◌≢◌, ℕ, suc, ◌+◌, ◌-◌, ◌*◌, ◌<◌, ◌≤◌, ◌&&◌, Bor, not, Bool, true, false, cond, eqb, List, [], ◌∷◌, ◌++◌, length, map, take, drop, get_or, nat_lt, nat_eq, bytes_eq, Some, None, sym, ap, ◌∙◌, subst, refl, arith, inl, inr}
-use Rattle.std.specs.List.{All, AllByRecursion, fold, list_all, list_any, position_or_len}
-use Rattle.std.specs.Option.{is_some}
-use Rattle.std.specs.Char.{is_ascii_digit}
-use Rattle.std.proofs.lemmas.Bool.Decides.{same_from_decides, Decides-eqb}
-use Rattle.std.proofs.lemmas.Slice.Eq.{bytes_eq-Decides}
 use Rattle.std.proofs.lemmas.Bool.{and_parts, cases_lt, eqb-true, eqb-false, leb-true}
 use Rattle.std.proofs.lemmas.List.{length-take, length-drop, take-append-drop, get_or-take}
-use Rattle.std.proofs.lemmas.List.Elements.{recursion_from_All}
-use Rattle.std.proofs.lemmas.List.Folds.{list_all-append}
-use Rattle.std.proofs.lemmas.List.Sums.{fold-append}
+use Rattle.std.proofs.lemmas.{Bool.Decides.same_from_decides, Bool.Decides.Decides-eqb, Slice.Eq.bytes_eq-Decides, List.Elements.recursion_from_All}
+use Rattle.std.proofs.lemmas.List.{Folds.list_all-append, Sums.fold-append}
+use Rattle.std.specs.List.{All, AllByRecursion, fold, list_all, list_any, position_or_len}
+use Rattle.std.specs.{Option.is_some, Char.is_ascii_digit}
 use Rattle.text_lines.specs.Numbers.{digits_value, number_of}
 use Rattle.machine_text.specs.code.Digits.{IsSignificant, is_nonzero, without_zeros}
 

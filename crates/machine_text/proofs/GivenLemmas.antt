@@ -1,23 +1,16 @@
 -- What is kept of the lines so far is enough to tell the fault of the next one.
 use Rattle.std.proofs.Common.{◌≡◌, ℕ, ◌+◌, ◌≤◌, ◌||◌, ◌&&◌, Bool, true, false, cond, nat_eq, List, [], ◌∷◌, ◌++◌, length, take, drop, get_or, Option, Some, None, sym, ap, ◌∙◌, subst, refl, arith, append-nil, add-one}
+use Rattle.std.proofs.lemmas.List.{take_more, take_all, Elements.filter_map-append}
 use Rattle.std.specs.List.{list_any, enumerate_from, filter_map, cons_option}
-use Rattle.std.proofs.lemmas.List.{take_more, take_all}
-use Rattle.std.proofs.lemmas.List.Elements.{filter_map-append}
 use Rattle.text_lines.specs.Answers.{first}
 use Rattle.text_lines.proofs.lemmas.AnswerLemmas.{first-zero, first_none_more, first_some}
-use Rattle.machine_text.specs.declared.given.Given.{Given}
-use Rattle.machine_text.specs.declared.machine.Limited.{Limited}
-use Rattle.machine_text.specs.declared.machine.Limited.TheVariants.{Functions, Nodes, Bits}
-use Rattle.machine_text.specs.declared.machine.MachNo.{MachNo}
-use Rattle.machine_text.specs.declared.quantity.Quantity.{Quantity}
-use Rattle.machine_text.specs.declared.saying.Setting.{Setting}
-use Rattle.machine_text.specs.declared.saying.Says.{Says}
 use Rattle.machine_text.specs.declared.saying.Says.TheVariants.{Nothing, Sets, Limits, Other}
-use Rattle.machine_text.specs.Limits.{same_limited}
-use Rattle.machine_text.specs.Quantities.{same_quantity, in_range, quantity_of}
 use Rattle.machine_text.specs.Settings.{same_given, setting_of, settings_of, sets}
 use Rattle.machine_text.specs.code.Given.{fault_in, given_after, given_fault, ports_in}
-use Rattle.machine_text.specs.Machines.{fault_of, line_fault}
+use Rattle.machine_text.specs.declared.{given.Given.Given, machine.Limited.Limited}
+use Rattle.machine_text.specs.declared.machine.{Limited.TheVariants.Functions, Limited.TheVariants.Nodes, Limited.TheVariants.Bits, MachNo.MachNo}
+use Rattle.machine_text.specs.{declared.quantity.Quantity.Quantity, declared.saying.Setting.Setting, declared.saying.Says.Says, Limits.same_limited}
+use Rattle.machine_text.specs.{Quantities.same_quantity, Quantities.in_range, Quantities.quantity_of, Machines.fault_of, Machines.line_fault}
 use Rattle.machine_text.proofs.SayingLemmas.{IsNext, next_said, no_next_said}
 
 -- the port that a line limits in this, if it does

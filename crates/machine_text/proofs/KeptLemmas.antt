@@ -1,18 +1,12 @@
 -- The limits of single ports that lines give, one line after another.
 use Rattle.std.proofs.Common.{◌≡◌, ℕ, ◌+◌, ◌≤◌, List, [], ◌∷◌, ◌++◌, length, take, drop, get_or, Option, Some, None, Ok, Err, sym, ap, ◌∙◌, subst, refl, arith, append-nil, add-one}
+use Rattle.std.proofs.lemmas.List.{take_more, take_all, Elements.filter_map-append}
 use Rattle.std.specs.List.{cons_option, enumerate_from}
-use Rattle.std.proofs.lemmas.List.{take_more, take_all}
-use Rattle.std.proofs.lemmas.List.Elements.{filter_map-append}
-use Rattle.text_lines.specs.Answers.{first}
-use Rattle.text_lines.specs.code.Answers.{fault_or}
+use Rattle.text_lines.specs.{Answers.first, code.Answers.fault_or}
 use Rattle.text_lines.proofs.lemmas.AnswerLemmas.{first-zero, first_none_more, first_some}
 use Rattle.text_lines.proofs.FaultLemmas.{fault_or_err, fault_or_ok}
-use Rattle.machine_text.specs.declared.machine.MachNo.{MachNo}
-use Rattle.machine_text.specs.declared.machine.PortLimit.{PortLimit}
-use Rattle.machine_text.specs.declared.saying.Says.{Says}
-use Rattle.machine_text.specs.declared.saying.Says.TheVariants.{Nothing}
-use Rattle.machine_text.specs.Settings.{limit_of, limits_of}
-use Rattle.machine_text.specs.Machines.{absent_fault, port_fault}
+use Rattle.machine_text.specs.declared.{machine.MachNo.MachNo, machine.PortLimit.PortLimit, saying.Says.Says, saying.Says.TheVariants.Nothing}
+use Rattle.machine_text.specs.{Settings.limit_of, Settings.limits_of, Machines.absent_fault, Machines.port_fault}
 use Rattle.machine_text.proofs.SayingLemmas.{IsNext, next_said, no_next_said}
 
 limits_more : (says : List Says) (said : Says) → limits_of (says ++ said ∷ []) ≡ limits_of says ++ cons_option (limit_of said) []

@@ -1,31 +1,22 @@
 -- A text reads as a machine exactly where it has no fault.
 use Rattle.limits.specs.declared.TheConstants.{MAX_PORTS}
 use Rattle.std.proofs.Common.{◌≡◌, ◌⊎◌, ℕ, suc, ◌+◌, ◌<◌, ◌≤◌, Bool, true, false, cond, nat_lt, List, [], ◌∷◌, length, take, get_or, Option, Some, None, sym, ap, ◌∙◌, subst, refl, inl, inr, arith}
-use Rattle.std.specs.List.{All, AllPairs, AllByRecursion, list_any, find, cons_option}
-use Rattle.std.specs.Option.{option_map, option_or}
-use Rattle.std.specs.Prelude.{unwrap_or, IfSome}
 use Rattle.std.proofs.lemmas.Bool.{cond-true, cond-false, cases_lt, lt-ltb, le-ltb, leb-true, and_parts, or_parts}
 use Rattle.std.proofs.lemmas.List.{get_or-take, get_or_default, length-take-le}
-use Rattle.std.proofs.lemmas.List.Elements.{All-from_recursion, All-from_get_or, recursion_from_All}
-use Rattle.std.proofs.lemmas.List.Folds.{list_any_none}
-use Rattle.std.proofs.lemmas.List.Kept.{AllPairs-cons}
+use Rattle.std.proofs.lemmas.List.{Elements.All-from_recursion, Elements.All-from_get_or, Elements.recursion_from_All, Folds.list_any_none, Kept.AllPairs-cons}
+use Rattle.std.specs.List.{All, AllPairs, AllByRecursion, list_any, find, cons_option}
+use Rattle.std.specs.{Option.option_map, Option.option_or, Prelude.unwrap_or, Prelude.IfSome}
 use Rattle.text_lines.specs.Answers.{first}
 use Rattle.text_lines.proofs.lemmas.AnswerLemmas.{first_none, none_below, or_none}
-use Rattle.machine_text.specs.declared.quantity.Quantity.{Quantity}
 use Rattle.machine_text.specs.declared.quantity.Quantity.TheVariants.{Logic, Array, Slots, Functions, Bits, Nodes}
-use Rattle.machine_text.specs.declared.saying.Setting.{Setting}
-use Rattle.machine_text.specs.declared.saying.Says.{Says}
 use Rattle.machine_text.specs.declared.saying.Says.TheVariants.{Nothing, Sets, Limits, Other}
-use Rattle.machine_text.specs.declared.machine.Limited.{Limited}
-use Rattle.machine_text.specs.declared.machine.Limited.TheVariants as limited
-use Rattle.machine_text.specs.declared.machine.Machine.{Machine}
-use Rattle.machine_text.specs.declared.machine.MachNo.{MachNo}
-use Rattle.machine_text.specs.declared.machine.MachNo.TheVariants.{Ports, NoPort}
-use Rattle.machine_text.specs.declared.machine.PortLimit.{PortLimit}
-use Rattle.machine_text.specs.Limits.{is_at, limit_most, port_count}
 use Rattle.machine_text.specs.Quantities.{in_range, same_quantity, least_of, most_of, default_of, quantity_of}
 use Rattle.machine_text.specs.Settings.{is_allowed, limit_of, limits_of, lines_say, same_given, sets, settings_of, setting_of}
 use Rattle.machine_text.specs.Machines.{IsValid, Reads, absent_fault, fault_of, first_fault, line_fault, machine_fault, machine_of, machine_said, number_in, port_fault, ports_of, processors}
+use Rattle.machine_text.specs.declared.{quantity.Quantity.Quantity, saying.Setting.Setting, saying.Says.Says, machine.Limited.Limited, machine.Machine.Machine}
+use Rattle.machine_text.specs.declared.machine.{MachNo.MachNo, MachNo.TheVariants.Ports, MachNo.TheVariants.NoPort, PortLimit.PortLimit}
+use Rattle.machine_text.specs.Limits.{is_at, limit_most, port_count}
+use Rattle.machine_text.specs.declared.machine.Limited.TheVariants as limited
 
 -- ---- one line
 

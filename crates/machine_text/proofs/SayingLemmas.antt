@@ -1,13 +1,9 @@
 -- What the lines of a text say, one line after another.
 use Rattle.std.proofs.Common.{◌≡◌, ℕ, ◌+◌, ◌<◌, ◌≤◌, List, [], ◌∷◌, length, map, drop, get_or, Option, sym, ap, ◌∙◌, refl, inl, inr}
+use Rattle.std.proofs.lemmas.{Bool.cases_lt, List.drop_all, List.drop_more}
 use Rattle.std.specs.List.{enumerate_from}
-use Rattle.std.proofs.lemmas.Bool.{cases_lt}
-use Rattle.std.proofs.lemmas.List.{drop_all, drop_more}
 use Rattle.text_lines.specs.Words.{words_of}
-use Rattle.machine_text.specs.declared.quantity.Version.{Version}
-use Rattle.machine_text.specs.declared.saying.Says.{Says}
-use Rattle.machine_text.specs.declared.saying.Says.TheVariants.{Nothing}
-use Rattle.machine_text.specs.code.Sayings.{said_lines}
+use Rattle.machine_text.specs.{declared.quantity.Version.Version, declared.saying.Says.Says, declared.saying.Says.TheVariants.Nothing, code.Sayings.said_lines}
 use Rattle.machine_text.specs.Settings.{line_says, says_from, settled}
 
 -- what numbered lines say is what they say, with the numbers

@@ -1,22 +1,12 @@
 -- A text of version 1 that reads as a machine says the same behind the line of version 2.
 use Rattle.std.proofs.Common.{◌≡◌, ℕ, Bool, true, false, cond, List, [], ◌∷◌, codes, Option, Some, None, sym, ap, ◌∙◌, subst, refl}
-use Rattle.std.specs.List.{All, AllPairs, AllByRecursion}
-use Rattle.std.specs.Prelude.{unwrap_or}
-use Rattle.std.proofs.lemmas.List.Elements.{All-from_recursion, recursion_from_All}
-use Rattle.std.proofs.lemmas.List.Kept.{AllPairs-cons}
-use Rattle.text_lines.specs.Bytes.{is_blank}
-use Rattle.text_lines.specs.Lines.{part_of, parts_of}
-use Rattle.text_lines.specs.Numbers.{number_of}
-use Rattle.text_lines.specs.Words.{words_of}
-use Rattle.machine_text.specs.declared.machine.Machine.{Machine}
-use Rattle.machine_text.specs.declared.quantity.Quantity.{Quantity}
-use Rattle.machine_text.specs.declared.quantity.Quantity.TheVariants.{Nodes}
-use Rattle.machine_text.specs.declared.quantity.Version.TheVariants.{One, Two}
-use Rattle.machine_text.specs.declared.saying.Says.{Says}
-use Rattle.machine_text.specs.declared.saying.Says.TheVariants.{Nothing}
-use Rattle.machine_text.specs.Quantities.{named}
+use Rattle.std.proofs.lemmas.List.{Elements.All-from_recursion, Elements.recursion_from_All, Kept.AllPairs-cons}
+use Rattle.std.specs.{List.All, List.AllPairs, List.AllByRecursion, Prelude.unwrap_or}
+use Rattle.text_lines.specs.{Bytes.is_blank, Lines.part_of, Lines.parts_of, Numbers.number_of, Words.words_of}
 use Rattle.machine_text.specs.Settings.{announces_two, is_allowed, limits_of, line_words, lines_say, same_given, says_from, set_by, settings_of, settled_by, version_of, words_say}
-use Rattle.machine_text.specs.Machines.{Reads, behind_version_two, machine_said}
+use Rattle.machine_text.specs.declared.{machine.Machine.Machine, quantity.Quantity.Quantity, quantity.Quantity.TheVariants.Nodes}
+use Rattle.machine_text.specs.declared.{quantity.Version.TheVariants.One, quantity.Version.TheVariants.Two, saying.Says.Says, saying.Says.TheVariants.Nothing}
+use Rattle.machine_text.specs.{Quantities.named, Machines.Reads, Machines.behind_version_two, Machines.machine_said}
 
 set_by_both : (quantity : Option Quantity) (n : Option ℕ) → is_allowed (set_by One quantity n) ≡ true → set_by Two quantity n ≡ set_by One quantity n
 set_by_both None n allowed = refl

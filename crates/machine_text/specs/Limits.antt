@@ -1,12 +1,9 @@
 -- The limits that hold at the ports of a machine.
 use Rattle.std.specs.Prelude.{ℕ, ◌==◌, Bool, true, false, Option, unwrap_or, ◌&&◌}
-use Rattle.std.specs.List.{find}
-use Rattle.std.specs.Option.{option_map}
+use Rattle.std.specs.{List.find, Option.option_map}
 use Rattle.limits.specs.declared.TheConstants.{MAX_FUNCTIONS, MAX_NODES, MAX_ARRAY_BITS}
-use Rattle.machine_text.specs.declared.machine.Limited.{Limited}
-use Rattle.machine_text.specs.declared.machine.Limited.TheVariants.{Functions, Nodes, Bits}
-use Rattle.machine_text.specs.declared.machine.Machine.{Machine}
-use Rattle.machine_text.specs.declared.machine.PortLimit.{PortLimit}
+use Rattle.machine_text.specs.declared.machine.Limited.{Limited, TheVariants.Functions, TheVariants.Nodes, TheVariants.Bits}
+use Rattle.machine_text.specs.declared.machine.{Machine.Machine, PortLimit.PortLimit}
 
 abbrev pub same_limited : Limited → Limited → Bool
 same_limited Functions Functions = true

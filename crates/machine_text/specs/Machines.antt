@@ -1,23 +1,16 @@
 -- Which machine a text reads as, and its first fault.
 use Rattle.std.specs.Prelude.{◌≡◌, ℕ, ◌+◌, ◌<◌, ◌≤◌, true, false, List, [], ◌∷◌, ◌++◌, codes, length, take, slice_index_or, Option, Some, None, unwrap_or, if◌then◌else◌, nat_lt, All, AllPairs}
-use Rattle.std.specs.List.{find, list_any}
-use Rattle.std.specs.Option.{option_map, option_or}
+use Rattle.std.specs.{List.find, List.list_any, Option.option_map, Option.option_or}
 use Rattle.limits.specs.declared.TheConstants.{MAX_LOGIC, MAX_ARRAY, MAX_PORTS, MAX_SLOTS, MAX_FUNCTIONS, MAX_NODES, MAX_ARRAY_BITS}
 use Rattle.text_lines.specs.Answers.{first}
-use Rattle.machine_text.specs.declared.quantity.Quantity.{Quantity}
 use Rattle.machine_text.specs.declared.quantity.Quantity.TheVariants.{Logic, Array, Slots, Functions, Bits, Nodes}
-use Rattle.machine_text.specs.declared.saying.Setting.{Setting}
-use Rattle.machine_text.specs.declared.saying.Says.{Says}
-use Rattle.machine_text.specs.declared.saying.Says.TheVariants.{Nothing, Limits, Other}
-use Rattle.machine_text.specs.declared.machine.Limited.{Limited}
-use Rattle.machine_text.specs.declared.machine.Limited.TheVariants as limited
-use Rattle.machine_text.specs.declared.machine.Machine.{Machine}
-use Rattle.machine_text.specs.declared.machine.MachNo.{MachNo}
 use Rattle.machine_text.specs.declared.machine.MachNo.TheVariants.{Syntax, Range, Twice, Ports, NoPort}
-use Rattle.machine_text.specs.declared.machine.PortLimit.{PortLimit}
-use Rattle.machine_text.specs.Limits.{is_at, limit_most, port_count}
-use Rattle.machine_text.specs.Quantities.{default_of}
 use Rattle.machine_text.specs.Settings.{is_allowed, limits_of, lines_say, same_given, sets, settings_of}
+use Rattle.machine_text.specs.declared.{quantity.Quantity.Quantity, saying.Setting.Setting, saying.Says.Says}
+use Rattle.machine_text.specs.declared.{saying.Says.TheVariants.Nothing, saying.Says.TheVariants.Limits, saying.Says.TheVariants.Other, machine.Limited.Limited}
+use Rattle.machine_text.specs.declared.machine.{Machine.Machine, MachNo.MachNo, PortLimit.PortLimit}
+use Rattle.machine_text.specs.{Limits.is_at, Limits.limit_most, Limits.port_count, Quantities.default_of}
+use Rattle.machine_text.specs.declared.machine.Limited.TheVariants as limited
 
 -- the number that settings give a quantity, or its default
 abbrev pub number_in : List Setting → Quantity → ℕ

@@ -2,12 +2,9 @@
 use Rattle.std.specs.Prelude.{ℕ, Bool, true, false, List, Option, Some, None, if◌then◌else◌, codes, nat_le, ◌&&◌}
 use Rattle.std.specs.Str.{str_eq_ignore_ascii_case}
 use Rattle.limits.specs.declared.TheConstants.{DEFAULT_LOGIC, DEFAULT_ARRAY, DEFAULT_FUNCTIONS, DEFAULT_ARRAY_BITS, MAX_LOGIC, MAX_ARRAY, MAX_SLOTS, MAX_FUNCTIONS, MAX_ARRAY_BITS, MAX_NODES}
-use Rattle.machine_text.specs.declared.machine.Limited.{Limited}
-use Rattle.machine_text.specs.declared.machine.Limited.TheVariants as limited
-use Rattle.machine_text.specs.declared.quantity.Version.{Version}
-use Rattle.machine_text.specs.declared.quantity.Version.TheVariants.{One}
-use Rattle.machine_text.specs.declared.quantity.Quantity.{Quantity}
 use Rattle.machine_text.specs.declared.quantity.Quantity.TheVariants.{Logic, Array, Slots, Functions, Bits, Nodes}
+use Rattle.machine_text.specs.declared.{machine.Limited.Limited, quantity.Version.Version, quantity.Version.TheVariants.One, quantity.Quantity.Quantity}
+use Rattle.machine_text.specs.declared.machine.Limited.TheVariants as limited
 
 abbrev pub same_quantity : Quantity → Quantity → Bool
 same_quantity Logic Logic = true

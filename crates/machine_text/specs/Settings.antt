@@ -1,21 +1,12 @@
 -- What the lines of a machine text say.
 use Rattle.std.specs.Prelude.{ℕ, Bool, true, false, ◌&&◌, nat_eq, List, [], ◌∷◌, map, codes, Option, Some, None, unwrap_or, if◌then◌else◌}
-use Rattle.std.specs.List.{filter_map}
-use Rattle.std.specs.Option.{is_some}
-use Rattle.std.specs.Str.{str_eq_ignore_ascii_case}
-use Rattle.text_lines.specs.Lines.{parts_of}
-use Rattle.text_lines.specs.Words.{words_of}
-use Rattle.text_lines.specs.Numbers.{number_of, within}
-use Rattle.machine_text.specs.declared.machine.Limited.{Limited}
-use Rattle.machine_text.specs.declared.machine.PortLimit.{PortLimit}
-use Rattle.machine_text.specs.declared.quantity.Quantity.{Quantity}
-use Rattle.machine_text.specs.declared.quantity.Version.{Version}
-use Rattle.machine_text.specs.declared.quantity.Version.TheVariants.{One, Two}
-use Rattle.machine_text.specs.declared.saying.Setting.{Setting}
-use Rattle.machine_text.specs.declared.saying.Says.{Says}
+use Rattle.std.specs.{List.filter_map, Option.is_some, Str.str_eq_ignore_ascii_case}
+use Rattle.text_lines.specs.{Lines.parts_of, Words.words_of, Numbers.number_of, Numbers.within}
 use Rattle.machine_text.specs.declared.saying.Says.TheVariants.{Nothing, Sets, Limits, Other}
-use Rattle.machine_text.specs.Limits.{same_limited}
 use Rattle.machine_text.specs.Quantities.{in_range, is_word, named, per_port, quantity_of, same_quantity}
+use Rattle.machine_text.specs.declared.{machine.Limited.Limited, machine.PortLimit.PortLimit, quantity.Quantity.Quantity, quantity.Version.Version}
+use Rattle.machine_text.specs.declared.{quantity.Version.TheVariants.One, quantity.Version.TheVariants.Two, saying.Setting.Setting, saying.Says.Says}
+use Rattle.machine_text.specs.Limits.{same_limited}
 
 -- ---- one line
 

@@ -1,8 +1,7 @@
 //! Decimal numbers of any length, and sets of them.
 
 ghost use Rattle.std.specs.Prelude.{◌≡◌, ◌++◌, [], ◌∷◌, min, not, if◌then◌else◌, nat_eq, IfOk};
-ghost use Rattle.std.specs.List.{list_any, position};
-ghost use Rattle.std.specs.Option.{is_some};
+ghost use Rattle.std.specs.{List.list_any, List.position, Option.is_some};
 ghost use Rattle.text_lines.specs.Numbers.{number_of, digits_value};
 ghost use Rattle.machine_text.specs.code.Digits.{IsSignificant, is_nonzero, without_zeros};
 

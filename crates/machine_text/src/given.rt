@@ -3,9 +3,8 @@
 ghost use Rattle.std.specs.Prelude.{◌≡◌, [], not, nat_eq, if◌then◌else◌, IfOk};
 ghost use Rattle.std.specs.List.{list_any};
 ghost use Rattle.text_lines.specs.Answers.{Answers};
-ghost use Rattle.machine_text.specs.declared.machine.MachNo.TheVariants.{Memory as NoMemory};
-ghost use Rattle.machine_text.specs.declared.saying.Says.TheVariants.{Sets, Limits};
 ghost use Rattle.machine_text.specs.code.Given.{fault_in, given_after, if_in_range, ports_in, with_port};
+ghost use Rattle.machine_text.specs.declared.{machine.MachNo.TheVariants.Memory as NoMemory, saying.Says.TheVariants.Sets, saying.Says.TheVariants.Limits};
 ghost use Rattle.machine_text.specs.Settings.{sets};
 
 use crate::digits::{Digits, Numbers};

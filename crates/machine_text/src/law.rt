@@ -3,11 +3,9 @@
 
 ghost use Rattle.std.specs.Prelude.{◌≡◌, ◌⊎◌, List as Items, ℕ, Some, None};
 ghost use Rattle.text_lines.specs.Answers.{IsReader};
-ghost use Rattle.machine_text.specs.declared.machine.Machine.{Machine};
-ghost use Rattle.machine_text.specs.declared.machine.MachNo.{MachNo};
-ghost use Rattle.machine_text.specs.declared.quantity.Version.TheVariants.{One};
-ghost use Rattle.machine_text.specs.Settings.{version_of};
 ghost use Rattle.machine_text.specs.Machines.{IsValid, Reads, behind_version_two, first_fault};
+ghost use Rattle.machine_text.specs.declared.{machine.Machine.Machine, machine.MachNo.MachNo, quantity.Version.TheVariants.One};
+ghost use Rattle.machine_text.specs.Settings.{version_of};
 
 /// Each text reads as one machine at most, and has no fault beside it.
 pub fn reads_as_one()

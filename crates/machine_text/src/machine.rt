@@ -1,9 +1,7 @@
 //! A machine, and why a machine text is refused.
 
-ghost use Rattle.std.specs.Prelude.{◌≡◌};
-ghost use Rattle.std.specs.List.{find};
-ghost use Rattle.machine_text.specs.Limits.{common_limit, is_at, limit_at};
-ghost use Rattle.machine_text.specs.Machines.{default_machine, IsValid};
+ghost use Rattle.std.specs.{Prelude.◌≡◌, List.find};
+ghost use Rattle.machine_text.specs.{Limits.common_limit, Limits.is_at, Limits.limit_at, Machines.default_machine, Machines.IsValid};
 
 use crate::quantity::Quantity;
 use seen_list::{List, Memory};

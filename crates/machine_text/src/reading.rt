@@ -2,13 +2,11 @@
 
 ghost use Rattle.std.specs.Prelude.{◌≡◌, ◌≤◌, true, None, MatchResult, IfOk, All, length};
 ghost use Rattle.limits.specs.declared.TheConstants.{MAX_TEXT_BYTES};
-ghost use Rattle.text_lines.specs.Answers.{Answers, first};
-ghost use Rattle.text_lines.specs.code.Answers.{fault_or};
-ghost use Rattle.machine_text.specs.declared.machine.Machine.{Machine};
-ghost use Rattle.machine_text.specs.declared.machine.MachNo.TheVariants.{Memory as NoMemory};
-ghost use Rattle.machine_text.specs.code.Given.{given_none, if_below};
+ghost use Rattle.text_lines.specs.{Answers.Answers, Answers.first, code.Answers.fault_or};
 ghost use Rattle.machine_text.specs.Settings.{is_allowed, limit_of, limits_of, lines_say, settings_of};
 ghost use Rattle.machine_text.specs.Machines.{IsValid, Reads, absent_fault, first_fault, line_fault, machine_of, number_in, port_fault, processors};
+ghost use Rattle.machine_text.specs.declared.machine.{Machine.Machine, MachNo.TheVariants.Memory as NoMemory};
+ghost use Rattle.machine_text.specs.code.Given.{given_none, if_below};
 
 use crate::digits::Digits;
 use crate::given::{Given, in_range, take_line};

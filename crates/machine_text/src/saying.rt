@@ -1,12 +1,10 @@
 //! What the lines of a machine text say.
 
 ghost use Rattle.std.specs.Prelude.{◌≡◌, ◌<◌, ◌^◌, None, length};
-ghost use Rattle.std.specs.List.{enumerate_from};
-ghost use Rattle.std.specs.Iterator.{YieldsFirst, item_count};
-ghost use Rattle.text_lines.specs.Lines.{parts_of};
-ghost use Rattle.text_lines.specs.Words.{words_of};
-ghost use Rattle.machine_text.specs.code.Sayings.{no_words, said_lines};
+ghost use Rattle.std.specs.{List.enumerate_from, Iterator.YieldsFirst, Iterator.item_count};
+ghost use Rattle.text_lines.specs.{Lines.parts_of, Words.words_of};
 ghost use Rattle.machine_text.specs.Settings.{announces_two, limit_by, limited_by, line_says, set_by, settled, words_say};
+ghost use Rattle.machine_text.specs.code.Sayings.{no_words, said_lines};
 
 use crate::digits::Digits;
 use crate::machine::Limited;
@@ -52,8 +50,7 @@ pub struct Sayings<'a> {
 
 impl<'a> Model for Sayings<'a> {
     ghost use Rattle.std.specs.Prelude.{List as Items, ℕ};
-    ghost use Rattle.machine_text.specs.declared.saying.Says.{Says};
-    ghost use Rattle.machine_text.specs.code.Sayings.{said_lines};
+    ghost use Rattle.machine_text.specs.{declared.saying.Says.Says, code.Sayings.said_lines};
 
     ghost Value = { Items (ℕ × Says) };
 

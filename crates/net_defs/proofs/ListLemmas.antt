@@ -1,13 +1,9 @@
 -- A binary search in an ascending list finds what the list has.
 use Rattle.std.proofs.Common.{◌≡◌, ℕ, ◌<◌, ◌≤◌, false, List, length, get_or, sym, arith}
+use Rattle.std.proofs.lemmas.List.{Sorted.searched, Elements.All-from_get_or, Folds.list_any_at, Folds.list_any_none}
 use Rattle.std.specs.Prelude.{◌==◌, Result, Ok, Err, is_ok, MatchResult}
-use Rattle.std.specs.Ordering.{nat_cmp}
-use Rattle.std.specs.List.Sorted.{IsBinarySearchResult}
-use Rattle.std.proofs.lemmas.List.Sorted.{searched}
-use Rattle.std.proofs.lemmas.List.Elements.{All-from_get_or}
-use Rattle.std.proofs.lemmas.List.Folds.{list_any_at, list_any_none}
-use Rattle.net_defs.specs.Steps.{is_listed}
-use Rattle.net_defs.specs.Valid.{Ascends}
+use Rattle.std.specs.{Ordering.nat_cmp, List.Sorted.IsBinarySearchResult}
+use Rattle.net_defs.specs.{Steps.is_listed, Valid.Ascends}
 
 module _ (listed : List ℕ) (gate : ℕ) where
   found_or_not : (found : Result ℕ ℕ) → MatchResult found (λ i. (i < length listed) × (get_or listed i 0 ≡ gate)) (λ i. (i ≤ length listed) × ((k : ℕ) → k < i → get_or listed k 0 < gate) × ((k : ℕ) → i ≤ k → k < length listed → gate < get_or listed k 0)) → is_ok found ≡ is_listed listed gate

@@ -1,14 +1,9 @@
 -- What a gate waits for, loops, orders in which no gate comes before one that it waits for, and the
 -- rank of a gate.
 use Rattle.std.specs.Prelude.{◌≡◌, ◌≢◌, ℕ, ◌+◌, ◌-◌, ◌<◌, ◌≤◌, Bool, true, false, max, if◌then◌else◌, List, [], length, take, IsTrue, Option, Some, None, slice_get, slice_index, fold, All, AllPairs, Contains, ◌⊎◌}
-use Rattle.net_defs.specs.declared.netlist.Netlist.{Netlist}
-use Rattle.net_defs.specs.declared.netlist.Signal.{Signal}
-use Rattle.net_defs.specs.declared.netlist.Driver.{Driver}
 use Rattle.net_defs.specs.declared.netlist.Driver.TheVariants.{Input, Gate, Dff, BlockBit}
-use Rattle.net_defs.specs.declared.timing.Timing.{Timing}
-use Rattle.net_defs.specs.declared.ranks.Ranks.{Ranks}
-use Rattle.net_defs.specs.Steps.{is_late}
-use Rattle.net_defs.specs.Valid.{IsSignal}
+use Rattle.net_defs.specs.declared.{netlist.Netlist.Netlist, netlist.Signal.Signal, netlist.Driver.Driver, timing.Timing.Timing, ranks.Ranks.Ranks}
+use Rattle.net_defs.specs.{Steps.is_late, Valid.IsSignal}
 
 -- the driver is a gate
 abbrev pub is_gate_driver : Driver → Bool

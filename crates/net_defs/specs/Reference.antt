@@ -1,10 +1,7 @@
 -- The reference simulation: the states from turn 0 to the last turn, each a right step from the one
 -- before.
 use Rattle.std.specs.Prelude.{◌≡◌, ℕ, ◌+◌, List, length, Some, slice_get}
-use Rattle.net_defs.specs.declared.netlist.Netlist.{Netlist}
-use Rattle.net_defs.specs.declared.timing.Timing.{Timing}
-use Rattle.net_defs.specs.declared.stimulus.Stimulus.{Stimulus}
-use Rattle.net_defs.specs.Time.{turn_count}
+use Rattle.net_defs.specs.{declared.netlist.Netlist.Netlist, declared.timing.Timing.Timing, declared.stimulus.Stimulus.Stimulus, Time.turn_count}
 use Rattle.net_defs.specs.Steps.{State, IsRightStep, first_state}
 
 -- these states are the reference simulation

@@ -2,21 +2,13 @@
 -- each signal by its driver, in no order.
 use Rattle.std.specs.Prelude.{◌≡◌, ℕ, ◌==◌, Bool, true, false, if◌then◌else◌, List, [], length, map, Option, Some, None, slice_get, slice_index_or, replicate}
 use Rattle.std.specs.List.{list_any}
-use Rattle.logic_four.specs.declared.V4.{V4}
-use Rattle.logic_four.specs.declared.V4.TheVariants.{Undef}
-use Rattle.logic_four.specs.Values.{settled}
-use Rattle.logic_four.specs.Gates.{gate_value}
+use Rattle.logic_four.specs.{declared.V4.V4, declared.V4.TheVariants.Undef, Values.settled, Gates.gate_value}
 use Rattle.logic_four.specs.Memory.{memory_act, MemoryAct, initial_words}
-use Rattle.net_defs.specs.declared.netlist.Netlist.{Netlist}
-use Rattle.net_defs.specs.declared.netlist.Signal.{Signal}
-use Rattle.net_defs.specs.declared.netlist.Block.{Block}
-use Rattle.net_defs.specs.declared.netlist.Driver.{Driver}
 use Rattle.net_defs.specs.declared.netlist.Driver.TheVariants.{Input, Gate, Dff, BlockBit}
-use Rattle.net_defs.specs.declared.timing.Timing.{Timing}
-use Rattle.net_defs.specs.declared.timing.Mode.{Mode}
-use Rattle.net_defs.specs.declared.timing.Mode.TheVariants as mode
-use Rattle.net_defs.specs.declared.stimulus.Stimulus.{Stimulus}
 use Rattle.net_defs.specs.Time.{is_edge, initial_value, value_at, input_at}
+use Rattle.net_defs.specs.declared.{netlist.Netlist.Netlist, netlist.Signal.Signal, netlist.Block.Block, netlist.Driver.Driver, timing.Timing.Timing}
+use Rattle.net_defs.specs.declared.{timing.Mode.Mode, stimulus.Stimulus.Stimulus}
+use Rattle.net_defs.specs.declared.timing.Mode.TheVariants as mode
 
 -- a state: a value for each signal, and the words of each memory
 pub record State : Type 0 where

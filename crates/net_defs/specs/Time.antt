@@ -1,13 +1,10 @@
 -- Turns and cycles, and what the inputs have. Turns are counted from 1, and turn 0 is before them.
 use Rattle.std.specs.Prelude.{ℕ, ◌+◌, ◌-◌, ◌*◌, ◌/◌, ◌%◌, ◌==◌, ◌&&◌, Bool, nat_le, List, [], length, slice_index_or, replicate}
 use Rattle.std.specs.List.{flat_map}
-use Rattle.logic_four.specs.declared.V4.{V4}
-use Rattle.logic_four.specs.declared.V4.TheVariants.{Undef, Zero}
+use Rattle.logic_four.specs.declared.V4.{V4, TheVariants.Undef, TheVariants.Zero}
 pub use Rattle.logic_four.specs.Values.{value_at}
-use Rattle.net_defs.specs.declared.timing.Timing.{Timing}
-use Rattle.net_defs.specs.declared.timing.Init.{Init}
+use Rattle.net_defs.specs.declared.{timing.Timing.Timing, timing.Init.Init, stimulus.Stimulus.Stimulus}
 use Rattle.net_defs.specs.declared.timing.Init.TheVariants as init
-use Rattle.net_defs.specs.declared.stimulus.Stimulus.{Stimulus}
 
 -- the cycle of a turn from 1 on: a cycle is so many turns
 abbrev pub cycle_of : ℕ → ℕ → ℕ

@@ -2,15 +2,9 @@
 -- its last turn has.
 use Rattle.std.specs.Prelude.{◌≡◌, ℕ, ◌+◌, ◌*◌, List, [], ◌∷◌, ◌++◌, map, slice_index_or, codes, decimal}
 use Rattle.std.specs.List.{flat_map, range_with_len}
-use Rattle.logic_four.specs.declared.V4.{V4}
-use Rattle.logic_four.specs.Values.{value_char}
-use Rattle.net_defs.specs.declared.netlist.Netlist.{Netlist}
-use Rattle.net_defs.specs.declared.timing.Timing.{Timing}
-use Rattle.net_defs.specs.declared.stimulus.Stimulus.{Stimulus}
-use Rattle.net_defs.specs.Time.{cycle_count}
-use Rattle.net_defs.specs.Steps.{State, values_of}
-use Rattle.net_defs.specs.Reference.{IsSimulation}
-use Rattle.net_defs.specs.Canonical.{name_of}
+use Rattle.logic_four.specs.{declared.V4.V4, Values.value_char}
+use Rattle.net_defs.specs.{declared.netlist.Netlist.Netlist, declared.timing.Timing.Timing, declared.stimulus.Stimulus.Stimulus, Time.cycle_count}
+use Rattle.net_defs.specs.{Steps.State, Steps.values_of, Reference.IsSimulation, Canonical.name_of}
 
 -- `cycle`, and each printed name after a space
 unfoldable pub header_line : Netlist → List ℕ

@@ -3,20 +3,12 @@
 use Rattle.std.specs.Prelude.{◌≡◌, ◌⊎◌, ℕ, ◌+◌, ◌^◌, ◌<◌, ◌≤◌, Bool, true, false, List, length, IsTrue, Some, slice_get, slice_index, count_by, All}
 use Rattle.std.specs.List.{sum_by, range_with_len}
 use Rattle.limits.specs.declared.TheConstants.{MAX_SIGNALS, MAX_OPERANDS, MAX_ADDRESS_BITS, MAX_WORD_BITS, MAX_UNITS, MAX_CYCLES}
-use Rattle.logic_four.specs.declared.V4.TheVariants.{Zero, One}
-use Rattle.logic_four.specs.Kinds.{AllowsOperands}
+use Rattle.logic_four.specs.{declared.V4.TheVariants.Zero, declared.V4.TheVariants.One, Kinds.AllowsOperands}
 pub use Rattle.text_lines.specs.Names.{IsName}
-use Rattle.net_defs.specs.declared.netlist.Netlist.{Netlist}
-use Rattle.net_defs.specs.declared.netlist.Signal.{Signal}
-use Rattle.net_defs.specs.declared.netlist.Block.{Block}
-use Rattle.net_defs.specs.declared.netlist.Driver.{Driver}
 use Rattle.net_defs.specs.declared.netlist.Driver.TheVariants.{Input, Gate, Dff, BlockBit}
-use Rattle.net_defs.specs.declared.faults.Fault.{Fault}
-use Rattle.net_defs.specs.declared.timing.Timing.{Timing}
+use Rattle.net_defs.specs.declared.{netlist.Netlist.Netlist, netlist.Signal.Signal, netlist.Block.Block, netlist.Driver.Driver, faults.Fault.Fault}
+use Rattle.net_defs.specs.{declared.timing.Timing.Timing, declared.stimulus.StimRow.StimRow, declared.stimulus.Stimulus.Stimulus, Time.cycle_count}
 use Rattle.net_defs.specs.declared.timing.Mode.TheVariants as mode
-use Rattle.net_defs.specs.declared.stimulus.StimRow.{StimRow}
-use Rattle.net_defs.specs.declared.stimulus.Stimulus.{Stimulus}
-use Rattle.net_defs.specs.Time.{cycle_count}
 
 -- the number of a signal
 abbrev pub IsSignal : Netlist → ℕ → Type 0

@@ -1,9 +1,7 @@
 //! What a gate waits for in a turn. Loops, orders and ranks speak of this alone.
 
 ghost use Rattle.std.specs.Prelude.{◌≡◌, ◌<◌, length};
-ghost use Rattle.net_defs.specs.Steps.{is_late, is_listed};
-ghost use Rattle.net_defs.specs.Loops.{gate_operands, is_gate, waits_for};
-ghost use Rattle.net_defs.specs.Valid.{Ascends, IsValidTiming};
+ghost use Rattle.net_defs.specs.{Steps.is_late, Steps.is_listed, Loops.gate_operands, Loops.is_gate, Loops.waits_for, Valid.Ascends, Valid.IsValidTiming};
 
 use crate::{Driver, Mode, Netlist, Timing};
 

@@ -1,8 +1,7 @@
 //! Stimuli.
 
 ghost use Rattle.std.specs.Prelude.{◌≡◌};
-ghost use Rattle.net_defs.specs.Time.{cycle_count};
-ghost use Rattle.net_defs.specs.Valid.{IsValidStimulus};
+ghost use Rattle.net_defs.specs.{Time.cycle_count, Valid.IsValidStimulus};
 
 use logic_four::V4;
 use seen_list::List;

@@ -3,8 +3,7 @@
 ghost use Rattle.std.specs.Prelude.{◌≡◌, ◌≤◌, []};
 ghost use Rattle.limits.specs.declared.TheConstants.{MAX_UNITS};
 ghost use Rattle.net_defs.specs.declared.timing.Mode.TheVariants as modes;
-ghost use Rattle.net_defs.specs.Time.{is_edge, initial_value};
-ghost use Rattle.net_defs.specs.Valid.{IsValidTiming, Ascends};
+ghost use Rattle.net_defs.specs.{Time.is_edge, Time.initial_value, Valid.IsValidTiming, Valid.Ascends};
 
 use logic_four::V4;
 use seen_list::List;

@@ -1,27 +1,15 @@
 -- What the memories answered into the places of their outputs, one memory after the other.
 use Rattle.std.proofs.Common.{◌≡◌, ◌≢◌, ◌∙◌, ℕ, ◌+◌, ◌<◌, inl, inr, true, false, if◌then◌else◌, nat_lt, List, length, map, drop, get_or, refl, sym, ap, subst, arith, Option, Some, None}
-use Rattle.std.specs.List.{slice_get, All}
-use Rattle.std.proofs.lemmas.Bool.Decides.{eqb_tells, nat_tests}
 use Rattle.std.proofs.lemmas.Option.{slice_get_within, slice_get-get_or, slice_get_past, get_or_from_slice_get}
-use Rattle.std.proofs.lemmas.List.{get_or-take, get_or-drop}
-use Rattle.std.proofs.lemmas.List.FromFn.{length-range_with_len}
+use Rattle.std.proofs.lemmas.{Bool.Decides.eqb_tells, Bool.Decides.nat_tests, List.get_or-take, List.get_or-drop, List.FromFn.length-range_with_len}
+use Rattle.std.specs.List.{slice_get, All}
 use Rattle.list_laws.proofs.Options.{one_some}
-use Rattle.logic_four.specs.declared.V4.{V4}
-use Rattle.logic_four.specs.declared.V4.TheVariants.{Undef}
-use Rattle.logic_four.specs.Memory.{memory_act}
-use Rattle.net_defs.specs.declared.netlist.Netlist.{Netlist}
-use Rattle.net_defs.specs.declared.netlist.Signal.{Signal}
-use Rattle.net_defs.specs.declared.netlist.Block.{Block}
-use Rattle.net_defs.specs.declared.netlist.Driver.{Driver}
-use Rattle.net_defs.specs.declared.netlist.Driver.TheVariants.{BlockBit}
-use Rattle.net_defs.specs.Time.{value_at}
-use Rattle.net_defs.specs.Valid.{IsValid, IsSignal, IsDrivable}
+use Rattle.logic_four.specs.{declared.V4.V4, declared.V4.TheVariants.Undef, Memory.memory_act}
 use Rattle.net_defs.specs.Steps.{State, values_of, act_of, words_of, output_bit}
-use Rattle.net_ops.specs.Places.{place_count}
-use Rattle.net_ops.specs.code.Places.{last_row}
-use Rattle.net_ops.specs.code.Rams.{ReadsWithin, act_over}
+use Rattle.net_defs.specs.declared.netlist.{Netlist.Netlist, Signal.Signal, Block.Block, Driver.Driver, Driver.TheVariants.BlockBit}
+use Rattle.net_defs.specs.{Time.value_at, Valid.IsValid, Valid.IsSignal, Valid.IsDrivable}
 use Rattle.net_ops.specs.code.States.{output_value, is_driven_below, is_answered, Answers}
-use Rattle.net_ops.specs.code.Values.{IsStagedTo, Puts}
+use Rattle.net_ops.specs.{Places.place_count, code.Places.last_row, code.Rams.ReadsWithin, code.Rams.act_over, code.Values.IsStagedTo, code.Values.Puts}
 use Rattle.net_ops.proofs.lemmas.Waits.{map_same}
 
 -- the value that a signal had in the last turn

@@ -2,17 +2,10 @@
 use Rattle.std.proofs.Common.{◌≡◌, ◌∙◌, ℕ, ◌<◌, Bool, true, List, length, get_or, sym, ap, subst, arith, Option}
 use Rattle.std.specs.List.{Contains, refill, All}
 use Rattle.logic_four.specs.declared.V4.{V4}
-use Rattle.net_defs.specs.declared.netlist.Netlist.{Netlist}
-use Rattle.net_defs.specs.declared.timing.Timing.{Timing}
-use Rattle.net_defs.specs.Time.{value_at}
-use Rattle.list_laws.proofs.Places.{place_of}
-use Rattle.list_laws.proofs.Members.{refill_whole}
-use Rattle.net_ops.specs.declared.ops.PairOp.{PairOp}
-use Rattle.net_ops.specs.Lanes.{forced, lane_row}
-use Rattle.net_ops.specs.Ops.{follow, IsWithin}
-use Rattle.net_ops.specs.Places.{place_count}
-use Rattle.net_ops.specs.Schedules.{here_value, Settles}
-use Rattle.net_ops.specs.code.States.{Assigns}
+use Rattle.net_defs.specs.{declared.netlist.Netlist.Netlist, declared.timing.Timing.Timing, Time.value_at}
+use Rattle.list_laws.proofs.{Places.place_of, Members.refill_whole}
+use Rattle.net_ops.specs.{declared.ops.PairOp.PairOp, Lanes.forced, Lanes.lane_row, Ops.follow, Ops.IsWithin, Places.place_count}
+use Rattle.net_ops.specs.{Schedules.here_value, Schedules.Settles, code.States.Assigns}
 use Rattle.net_ops.proofs.LaneLemmas.{lane_long}
 
 -- what the operations of a list settle in a lane of a row that was lent

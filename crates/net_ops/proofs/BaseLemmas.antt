@@ -1,30 +1,17 @@
 -- What the signals have that are no gates, in one lane.
 use Rattle.std.proofs.Common.{◌≡◌, ◌≢◌, ◌∙◌, ℕ, ◌+◌, ◌<◌, ◌≤◌, inl, inr, false, List, length, set, refl, sym, ap, ap₂, subst, arith, Option, Some}
+use Rattle.std.proofs.lemmas.{Option.slice_get_within, List.length-set, List.get_or-set_same, List.get_or-set_other}
 use Rattle.std.specs.List.{slice_get}
-use Rattle.std.proofs.lemmas.Option.{slice_get_within}
-use Rattle.std.proofs.lemmas.List.{length-set, get_or-set_same, get_or-set_other}
 use Rattle.list_laws.proofs.Ranges.{last_or}
-use Rattle.logic_four.specs.declared.V4.{V4}
-use Rattle.logic_four.specs.declared.V4.TheVariants.{Undef}
-use Rattle.logic_four.specs.Values.{settled}
-use Rattle.net_defs.specs.declared.netlist.Netlist.{Netlist}
-use Rattle.net_defs.specs.declared.netlist.Signal.{Signal}
-use Rattle.net_defs.specs.declared.netlist.Driver.{Driver}
+use Rattle.logic_four.specs.{declared.V4.V4, declared.V4.TheVariants.Undef, Values.settled}
 use Rattle.net_defs.specs.declared.netlist.Driver.TheVariants.{Input, Gate, Dff, BlockBit}
-use Rattle.net_defs.specs.declared.timing.Timing.{Timing}
-use Rattle.net_defs.specs.Time.{value_at, initial_value}
-use Rattle.net_defs.specs.Valid.{IsValid, IsDrivable}
-use Rattle.net_defs.specs.Steps.{State}
-use Rattle.net_defs.specs.Loops.{is_gate, is_gate_driver}
-use Rattle.net_ops.specs.declared.schedule.Giver.{Giver}
-use Rattle.net_ops.specs.declared.schedule.Giver.TheVariants as giver
-use Rattle.net_ops.specs.declared.schedule.Source.{Source}
-use Rattle.net_ops.specs.declared.step.Phase.{Phase}
-use Rattle.net_ops.specs.declared.step.Phase.TheVariants as phase
-use Rattle.net_ops.specs.Lanes.{forced}
-use Rattle.net_ops.specs.code.Places.{last_row}
+use Rattle.net_defs.specs.declared.{netlist.Netlist.Netlist, netlist.Signal.Signal, netlist.Driver.Driver, timing.Timing.Timing}
+use Rattle.net_defs.specs.{Time.value_at, Time.initial_value, Valid.IsValid, Valid.IsDrivable, Steps.State, Loops.is_gate, Loops.is_gate_driver}
 use Rattle.net_ops.specs.Schedules.{AreSources, IsTakenFrom, giver_of, no_source, source_at}
 use Rattle.net_ops.specs.code.States.{by_phase, given_value, driven_by, Answers, AreBases, HasSources}
+use Rattle.net_ops.specs.{declared.schedule.Giver.Giver, declared.schedule.Source.Source, declared.step.Phase.Phase, Lanes.forced, code.Places.last_row}
+use Rattle.net_ops.specs.declared.schedule.Giver.TheVariants as giver
+use Rattle.net_ops.specs.declared.step.Phase.TheVariants as phase
 use Rattle.net_ops.proofs.AnswerLemmas.{answered, last_value, unanswered}
 
 module _ (timing : Timing) (stuck : ℕ → Option V4) (at : Phase) (inputs here : List V4) (list : List Source) where

@@ -1,13 +1,10 @@
 -- One lane of a row that is written.
 use Rattle.std.proofs.Common.{◌≡◌, ◌∙◌, ℕ, ◌<◌, List, length, get_or, set, sym, ap, take, drop}
+use Rattle.std.proofs.{Math.Seq.map-set_same, lemmas.List.length-map, lemmas.List.get_or-map, lemmas.List.map-set}
 use Rattle.std.specs.List.{drop-map, take-map}
-use Rattle.std.proofs.Math.Seq.{map-set_same}
-use Rattle.std.proofs.lemmas.List.{length-map, get_or-map, map-set}
-use Rattle.logic_four.specs.declared.V4.{V4}
-use Rattle.logic_four.specs.declared.V4.TheVariants.{Undef}
+use Rattle.logic_four.specs.declared.V4.{V4, TheVariants.Undef}
 use Rattle.net_defs.specs.Time.{value_at}
-use Rattle.net_ops.specs.Lanes.{lane_row}
-use Rattle.net_ops.specs.code.Values.{Keeps}
+use Rattle.net_ops.specs.{Lanes.lane_row, code.Values.Keeps}
 
 module _ {W : Type 0} (lane : W → ℕ → V4) where
   -- the value of a lane in a place of a row

@@ -1,18 +1,12 @@
 -- The writes of all memories, one after the other.
 use Rattle.std.proofs.Common.{◌≡◌, ◌≢◌, ◌∙◌, ℕ, ◌+◌, ◌<◌, inl, inr, List, [], length, get_or, set, refl, sym, ap, subst, arith, Some}
-use Rattle.std.specs.List.{slice_get, refill}
-use Rattle.std.proofs.lemmas.Bool.Decides.{eqb_tells}
-use Rattle.std.proofs.lemmas.Option.{slice_get-get_or}
 use Rattle.std.proofs.lemmas.List.{length-set, get_or-set_same, get_or-set_other, get_or_default}
-use Rattle.logic_four.specs.declared.V4.{V4}
-use Rattle.logic_four.specs.Memory.{HasShape, written}
-use Rattle.net_defs.specs.declared.netlist.Netlist.{Netlist}
-use Rattle.net_defs.specs.declared.netlist.Block.{Block}
-use Rattle.net_defs.specs.Time.{value_at}
-use Rattle.net_defs.specs.Steps.{values_of}
+use Rattle.std.proofs.lemmas.{Bool.Decides.eqb_tells, Option.slice_get-get_or}
+use Rattle.std.specs.List.{slice_get, refill}
+use Rattle.logic_four.specs.{declared.V4.V4, Memory.HasShape, Memory.written}
+use Rattle.net_defs.specs.{declared.netlist.Netlist.Netlist, declared.netlist.Block.Block, Time.value_at, Steps.values_of}
 use Rattle.list_laws.proofs.Ranges.{last_or}
-use Rattle.net_ops.specs.States.{AreShaped}
-use Rattle.net_ops.specs.code.States.{WroteMemories}
+use Rattle.net_ops.specs.{States.AreShaped, code.States.WroteMemories}
 use Rattle.net_ops.proofs.lemmas.Writes.{refill_set}
 
 -- a memory of a netlist by its number

@@ -1,21 +1,14 @@
 -- Operations that join two values, and gates made of them.
 use Rattle.std.proofs.Common.{◌≡◌, ◌≢◌, ◌∙◌, ℕ, zero, suc, ◌+◌, ◌<◌, ◌≤◌, List, [], ◌∷◌, ◌++◌, length, map, take, get_or, set, refl, sym, ap, ap₂, arith, IsTrue, Option, Some, None}
-use Rattle.std.specs.List.{All}
 use Rattle.std.proofs.lemmas.List.{length-set, get_or-set_same, get_or-set_other, map_more, take_all, append_assoc}
-use Rattle.std.proofs.lemmas.List.Elements.{All-append}
-use Rattle.std.proofs.lemmas.List.Sums.{fold_push, fold_more}
-use Rattle.logic_four.specs.declared.V4.{V4}
-use Rattle.logic_four.specs.declared.V4.TheVariants.{Undef}
-use Rattle.logic_four.specs.declared.Kind.{Kind}
-use Rattle.logic_four.specs.Gates.{gate_value}
-use Rattle.logic_four.specs.Kinds.{AllowsOperands}
+use Rattle.std.proofs.lemmas.List.{Elements.All-append, Sums.fold_push, Sums.fold_more}
+use Rattle.std.specs.List.{All}
+use Rattle.logic_four.specs.{declared.V4.V4, declared.V4.TheVariants.Undef, declared.Kind.Kind, Gates.gate_value, Kinds.AllowsOperands}
 use Rattle.logic_four.specs.Folds.{takes_many, base_kind, lone_kind}
 use Rattle.logic_four.proofs.lemmas.FoldLemmas.{front}
 use Rattle.net_defs.specs.Time.{value_at}
-use Rattle.net_ops.specs.declared.ops.PairOp.{PairOp}
-use Rattle.net_ops.specs.Lanes.{forced, lane_row}
 use Rattle.net_ops.specs.Ops.{op_value, do_op, follow, IsWithin}
-use Rattle.net_ops.specs.code.Sequences.{Adds}
+use Rattle.net_ops.specs.{declared.ops.PairOp.PairOp, Lanes.forced, Lanes.lane_row, code.Sequences.Adds}
 use Rattle.net_ops.proofs.LaneLemmas.{lane_at, lane_set}
 
 pub All-one : {X : Type 0} (P : X → Type 0) (x : X) → P x → All P (x ∷ [])

@@ -1,19 +1,13 @@
 -- What the memories answered through their ports.
 use Rattle.std.proofs.Common.{◌≡◌, ◌≢◌, ◌∙◌, ℕ, ◌+◌, ◌<◌, inl, inr, List, [], ◌∷◌, ◌++◌, length, get_or, set, sym, ap, subst, arith, Some}
-use Rattle.std.specs.List.{slice_get, refill}
-use Rattle.std.proofs.lemmas.Bool.Decides.{eqb_tells}
-use Rattle.std.proofs.lemmas.Option.{slice_get_within, slice_get-get_or, get_or_from_slice_get}
 use Rattle.std.proofs.lemmas.List.{length-set, length_push, get_or-set_same, get_or-set_other, get_or_append_left, get_or_push}
+use Rattle.std.proofs.lemmas.{Bool.Decides.eqb_tells, Option.slice_get_within, Option.slice_get-get_or, Option.get_or_from_slice_get}
+use Rattle.std.specs.List.{slice_get, refill}
 use Rattle.logic_four.specs.declared.V4.{V4}
-use Rattle.net_defs.specs.declared.netlist.Netlist.{Netlist}
-use Rattle.net_defs.specs.declared.netlist.Block.{Block}
+use Rattle.net_defs.specs.declared.netlist.{Netlist.Netlist, Block.Block}
 use Rattle.list_laws.proofs.Ranges.{last_or}
-use Rattle.net_ops.proofs.Memories.{memory_here, same_memory}
-use Rattle.net_ops.proofs.lemmas.Writes.{refill_set}
-use Rattle.net_ops.specs.declared.ram.RamPort.{RamPort}
-use Rattle.net_ops.specs.Lanes.{lane_row}
-use Rattle.net_ops.specs.Rams.{FitsPort, ArePorts}
-use Rattle.net_ops.specs.code.States.{HasActed}
+use Rattle.net_ops.proofs.{Memories.memory_here, Memories.same_memory, lemmas.Writes.refill_set}
+use Rattle.net_ops.specs.{declared.ram.RamPort.RamPort, Lanes.lane_row, Rams.FitsPort, Rams.ArePorts, code.States.HasActed}
 
 -- a port more
 pub ports_push : (items : List Block) (ports : List RamPort) (i : ℕ) (memory : Block) (port : RamPort) → length ports ≡ i → memory ≡ get_or items i memory → FitsPort memory port

@@ -1,9 +1,7 @@
 -- Rows that are written signal by signal.
 use Rattle.std.proofs.Common.{◌≡◌, ◌≢◌, ◌∙◌, ℕ, ◌+◌, ◌<◌, ◌⊎◌, inl, inr, List, length, get_or, set, sym, ap, arith}
-use Rattle.std.proofs.lemmas.Bool.Decides.{eqb_tells}
-use Rattle.std.proofs.lemmas.List.{length-set, get_or-set_same, get_or-set_other}
-use Rattle.logic_four.specs.declared.V4.{V4}
-use Rattle.logic_four.specs.declared.V4.TheVariants.{Undef}
+use Rattle.std.proofs.lemmas.{Bool.Decides.eqb_tells, List.length-set, List.get_or-set_same, List.get_or-set_other}
+use Rattle.logic_four.specs.declared.V4.{V4, TheVariants.Undef}
 use Rattle.net_defs.specs.Time.{value_at}
 use Rattle.list_laws.proofs.Ranges.{last_or}
 use Rattle.net_ops.specs.code.Values.{Puts}

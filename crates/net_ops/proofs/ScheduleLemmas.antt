@@ -1,23 +1,13 @@
 -- The gates of an order, and the signals that are no gates.
 use Rattle.std.proofs.Common.{◌≡◌, ◌≢◌, ◌∙◌, ℕ, ◌+◌, ◌<◌, ◌≤◌, inl, inr, true, false, List, [], ◌∷◌, ◌++◌, length, get_or, refl, sym, ap, subst, arith, Some}
+use Rattle.std.proofs.lemmas.List.{length_push, get_or_push, get_or_append_left, Elements.All-append, Quantifiers.all_pairs_push}
 use Rattle.std.specs.List.{Contains, slice_get}
-use Rattle.std.proofs.lemmas.List.{length_push, get_or_push, get_or_append_left}
-use Rattle.std.proofs.lemmas.List.Elements.{All-append}
-use Rattle.std.proofs.lemmas.List.Quantifiers.{all_pairs_push}
-use Rattle.net_defs.specs.declared.netlist.Netlist.{Netlist}
-use Rattle.net_defs.specs.declared.netlist.Signal.{Signal}
-use Rattle.net_defs.specs.declared.netlist.Driver.{Driver}
-use Rattle.net_defs.specs.declared.netlist.Driver.TheVariants.{Dff}
-use Rattle.net_defs.specs.declared.timing.Timing.{Timing}
 use Rattle.net_defs.specs.Loops.{IsGate, waits_for, IsOrder, is_gate}
+use Rattle.net_defs.specs.declared.{netlist.Netlist.Netlist, netlist.Signal.Signal, netlist.Driver.Driver, netlist.Driver.TheVariants.Dff, timing.Timing.Timing}
 use Rattle.net_defs.specs.Valid.{IsValid, IsDrivable}
-use Rattle.list_laws.proofs.Differ.{differ_at}
-use Rattle.list_laws.proofs.Places.{place_below}
-use Rattle.list_laws.proofs.Options.{one_some}
-use Rattle.list_laws.proofs.Ranges.{last_or}
-use Rattle.net_ops.specs.declared.schedule.Giver.{Giver}
-use Rattle.net_ops.specs.declared.schedule.Source.{Source}
+use Rattle.list_laws.proofs.{Differ.differ_at, Places.place_below, Options.one_some, Ranges.last_or}
 use Rattle.net_ops.specs.Schedules.{AreSources, IsSource, IsTakenFrom, giver_of, no_source}
+use Rattle.net_ops.specs.declared.schedule.{Giver.Giver, Source.Source}
 use Rattle.net_ops.proofs.OpLemmas.{All-one}
 
 -- no gate of an order waits for itself or for one that stands after it

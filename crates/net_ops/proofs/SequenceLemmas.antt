@@ -1,34 +1,17 @@
 -- The operations of some signals, one after the other.
 use Rattle.std.proofs.Common.{◌≡◌, ◌≢◌, ◌∙◌, ℕ, ◌+◌, ◌<◌, ◌≤◌, inl, inr, Bool, true, false, if◌then◌else◌, List, [], length, map, get_or, refl, sym, ap, subst, arith, Option, Some, None}
+use Rattle.std.proofs.lemmas.{Bool.Decides.eqb_tells, List.get_or_default, List.Elements.All-append, List.Sums.fold-append}
 use Rattle.std.specs.List.{All, slice_get, Contains}
-use Rattle.std.proofs.lemmas.Bool.Decides.{eqb_tells}
-use Rattle.std.proofs.lemmas.List.{get_or_default}
-use Rattle.std.proofs.lemmas.List.Elements.{All-append}
-use Rattle.std.proofs.lemmas.List.Sums.{fold-append}
-use Rattle.list_laws.proofs.Places.{Contains-at}
-use Rattle.logic_four.specs.declared.V4.{V4}
-use Rattle.logic_four.specs.declared.Kind.{Kind}
-use Rattle.logic_four.specs.Gates.{gate_value}
-use Rattle.net_defs.specs.declared.netlist.Netlist.{Netlist}
-use Rattle.net_defs.specs.declared.netlist.Signal.{Signal}
-use Rattle.net_defs.specs.declared.netlist.Driver.{Driver}
-use Rattle.net_defs.specs.declared.netlist.Driver.TheVariants.{Gate}
-use Rattle.net_defs.specs.declared.timing.Timing.{Timing}
-use Rattle.net_defs.specs.Time.{value_at}
-use Rattle.net_defs.specs.Steps.{is_late}
-use Rattle.net_defs.specs.Valid.{IsValid}
+use Rattle.list_laws.proofs.{Places.Contains-at, Ranges.last_or}
+use Rattle.logic_four.specs.{declared.V4.V4, declared.Kind.Kind, Gates.gate_value}
 use Rattle.net_defs.specs.Loops.{is_gate, is_gate_driver, waits_for, IsOrder}
-use Rattle.list_laws.proofs.Ranges.{last_or}
-use Rattle.net_ops.specs.declared.ops.PairOp.{PairOp}
-use Rattle.net_ops.specs.Lanes.{forced}
-use Rattle.net_ops.specs.Ops.{do_op, follow, IsWithin}
-use Rattle.net_ops.specs.Places.{place_count}
+use Rattle.net_defs.specs.declared.netlist.{Netlist.Netlist, Signal.Signal, Driver.Driver, Driver.TheVariants.Gate}
+use Rattle.net_defs.specs.{declared.timing.Timing.Timing, Time.value_at, Steps.is_late, Valid.IsValid}
 use Rattle.net_ops.specs.Schedules.{operand_place, here_driven, here_value, Settles}
-use Rattle.net_ops.specs.code.Sequences.{Adds}
+use Rattle.net_ops.specs.{declared.ops.PairOp.PairOp, Lanes.forced, Ops.do_op, Ops.follow, Ops.IsWithin, Places.place_count, code.Sequences.Adds}
 use Rattle.rank_find.proofs.lemmas.NumberLemmas.{gate_within}
-use Rattle.net_ops.proofs.OpLemmas.{adds_as}
-use Rattle.net_ops.proofs.ScheduleLemmas.{order_reads}
 use Rattle.net_ops.proofs.lemmas.Waits.{map_same, late_or, operand_low, waits_here}
+use Rattle.net_ops.proofs.{OpLemmas.adds_as, ScheduleLemmas.order_reads}
 
 -- where the operands of a gate begin, which doesn't read its own place
 pub base_apart : (signals base gate : ℕ) (late : Bool) (operands : List ℕ) → base ≡ (if late then signals else 0) → gate < signals → (late ≡ false → (o : ℕ) → Contains operands o → o ≢ gate)

@@ -1,19 +1,11 @@
 -- The state before the first turn, lane by lane.
 use Rattle.std.proofs.Common.{◌≡◌, ◌∙◌, ℕ, zero, suc, ◌<◌, List, [], ◌∷◌, length, replicate, get_or, refl, ap, ap₂, arith}
-use Rattle.std.proofs.lemmas.Option.{slice_get_within, get_or_from_slice_get}
 use Rattle.std.proofs.lemmas.List.{length-map, get_or-map, get_or-replicate, take-replicate}
-use Rattle.logic_four.specs.declared.V4.{V4}
-use Rattle.logic_four.specs.declared.V4.TheVariants.{Undef}
-use Rattle.logic_four.specs.Memory.{initial_words}
+use Rattle.std.proofs.lemmas.Option.{slice_get_within, get_or_from_slice_get}
+use Rattle.logic_four.specs.{declared.V4.V4, declared.V4.TheVariants.Undef, Memory.initial_words}
 use Rattle.logic_four.proofs.lemmas.MemoryLemmas.{first_shape}
-use Rattle.net_defs.specs.declared.netlist.Netlist.{Netlist}
-use Rattle.net_defs.specs.declared.timing.Timing.{Timing}
-use Rattle.net_defs.specs.Time.{initial_value}
-use Rattle.net_defs.specs.Steps.{first_state}
-use Rattle.net_ops.specs.declared.state.LaneState.{LaneState}
-use Rattle.net_ops.specs.Lanes.{lane_row}
-use Rattle.net_ops.specs.Places.{place_count, row_of}
-use Rattle.net_ops.specs.States.{lane_state, AreShaped}
+use Rattle.net_defs.specs.{declared.netlist.Netlist.Netlist, declared.timing.Timing.Timing, Time.initial_value, Steps.first_state}
+use Rattle.net_ops.specs.{declared.state.LaneState.LaneState, Lanes.lane_row, Places.place_count, Places.row_of, States.lane_state, States.AreShaped}
 use Rattle.net_ops.specs.code.States.{initial_memories}
 
 module _ {W : Type 0} (lane : W → ℕ → V4) where

@@ -1,24 +1,15 @@
 -- The phase of each turn, and a step of its phase as a step of the reference simulation.
-use Rattle.std.proofs.Math.Numerals.{add-one}
 use Rattle.std.proofs.Common.{◌≡◌, ◌≢◌, ◌∙◌, ℕ, ◌+◌, ◌-◌, ◌*◌, ◌/◌, ◌%◌, ◌<◌, ◌≤◌, inl, inr, Bool, true, false, if◌then◌else◌, ◌&&◌, ◌==◌, nat_le, List, [], get_or, refl, sym, ap, subst, arith, IsTrue, Option, None}
-use Rattle.std.proofs.lemmas.Bool.{eqb-true}
-use Rattle.std.proofs.lemmas.Bool.Decides.{eqb_tells, leb_tells}
-use Rattle.std.proofs.Math.Nat.{mul-le-mul_left}
+use Rattle.std.proofs.{Math.Numerals.add-one, lemmas.Bool.eqb-true, lemmas.Bool.Decides.eqb_tells, lemmas.Bool.Decides.leb_tells, Math.Nat.mul-le-mul_left}
 use Rattle.std.proofs.lemmas.Nat.{mod-mul-add, div-mul-add}
 use Rattle.logic_four.specs.declared.V4.{V4}
-use Rattle.net_defs.specs.declared.netlist.Netlist.{Netlist}
-use Rattle.net_defs.specs.declared.netlist.Driver.{Driver}
 use Rattle.net_defs.specs.declared.netlist.Driver.TheVariants.{Input, Gate, Dff, BlockBit}
-use Rattle.net_defs.specs.declared.timing.Timing.{Timing}
-use Rattle.net_defs.specs.declared.stimulus.Stimulus.{Stimulus}
 use Rattle.net_defs.specs.Time.{value_at, is_edge, cycle_of, cycle_rows, input_at}
-use Rattle.net_defs.specs.Valid.{is_input}
-use Rattle.net_defs.specs.Steps.{State, driven, IsRightStep}
-use Rattle.net_ops.specs.declared.step.Phase.{Phase}
-use Rattle.net_ops.specs.declared.step.Phase.TheVariants as phase
-use Rattle.net_ops.specs.Lanes.{forced}
-use Rattle.net_ops.specs.States.{IsForcedStep, Passes}
+use Rattle.net_defs.specs.declared.{netlist.Netlist.Netlist, netlist.Driver.Driver, timing.Timing.Timing, stimulus.Stimulus.Stimulus}
+use Rattle.net_defs.specs.{Valid.is_input, Steps.State, Steps.driven, Steps.IsRightStep}
 use Rattle.net_ops.specs.code.States.{by_phase, driven_by, phase_at, phase_of, words_by_phase, HasHeld, StepsBy}
+use Rattle.net_ops.specs.{declared.step.Phase.Phase, Lanes.forced, States.IsForcedStep, States.Passes}
+use Rattle.net_ops.specs.declared.step.Phase.TheVariants as phase
 use Rattle.net_ops.proofs.OpLemmas.{forced_twice}
 
 -- a choice by the phase is the choice by the turn

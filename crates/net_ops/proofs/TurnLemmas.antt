@@ -1,35 +1,18 @@
 -- What a turn in place makes in a lane is a step of its phase.
 use Rattle.std.proofs.Common.{◌≡◌, ◌≢◌, ◌∙◌, ℕ, ◌+◌, ◌<◌, inl, inr, false, if◌then◌else◌, List, length, map, refl, sym, ap, subst, arith, Option, Some}
+use Rattle.std.proofs.lemmas.{Option.slice_get_within, Option.slice_get_past, List.length-map, List.length-take-le, List.get_or-take}
 use Rattle.std.specs.List.{slice_get}
-use Rattle.std.proofs.lemmas.Option.{slice_get_within, slice_get_past}
-use Rattle.std.proofs.lemmas.List.{length-map, length-take-le, get_or-take}
-use Rattle.logic_four.specs.declared.V4.{V4}
-use Rattle.logic_four.specs.declared.V4.TheVariants.{Undef}
-use Rattle.logic_four.specs.declared.Kind.{Kind}
-use Rattle.logic_four.specs.Gates.{gate_value}
-use Rattle.logic_four.specs.Memory.{HasShape}
+use Rattle.logic_four.specs.{declared.V4.V4, declared.V4.TheVariants.Undef, declared.Kind.Kind, Gates.gate_value, Memory.HasShape}
 use Rattle.logic_four.proofs.lemmas.MemoryLemmas.{shape}
-use Rattle.net_defs.specs.declared.netlist.Netlist.{Netlist}
-use Rattle.net_defs.specs.declared.netlist.Signal.{Signal}
-use Rattle.net_defs.specs.declared.netlist.Block.{Block}
-use Rattle.net_defs.specs.declared.netlist.Driver.{Driver}
 use Rattle.net_defs.specs.declared.netlist.Driver.TheVariants.{Input, Gate, Dff, BlockBit}
-use Rattle.net_defs.specs.declared.timing.Timing.{Timing}
-use Rattle.net_defs.specs.Time.{value_at}
-use Rattle.net_defs.specs.Valid.{IsValid, is_input}
 use Rattle.net_defs.specs.Steps.{State, is_late, values_of, act_of, words_of}
-use Rattle.net_defs.specs.Loops.{is_gate, is_gate_driver}
-use Rattle.net_ops.specs.declared.step.Phase.{Phase}
-use Rattle.net_ops.specs.declared.step.Phase.TheVariants as phase
-use Rattle.net_ops.specs.Lanes.{forced}
-use Rattle.net_ops.specs.Places.{place_count, row_of}
-use Rattle.net_ops.specs.code.Places.{last_row}
-use Rattle.net_ops.specs.Schedules.{here_value, operand_place}
-use Rattle.net_ops.specs.States.{AreShaped}
+use Rattle.net_defs.specs.declared.{netlist.Netlist.Netlist, netlist.Signal.Signal, netlist.Block.Block, netlist.Driver.Driver, timing.Timing.Timing}
+use Rattle.net_defs.specs.{Time.value_at, Valid.IsValid, Valid.is_input, Loops.is_gate, Loops.is_gate_driver}
 use Rattle.net_ops.specs.code.States.{driven_by, words_by_phase, Assigns, HasHeld, HasSources, StepsBy, WordsBy}
-use Rattle.net_ops.specs.code.Values.{Keeps}
-use Rattle.net_ops.proofs.AnswerLemmas.{last_value}
-use Rattle.net_ops.proofs.lemmas.Waits.{map_same, late_or, operand_low}
+use Rattle.net_ops.specs.{declared.step.Phase.Phase, Lanes.forced, Places.place_count, Places.row_of, code.Places.last_row}
+use Rattle.net_ops.specs.{Schedules.here_value, Schedules.operand_place, States.AreShaped, code.Values.Keeps}
+use Rattle.net_ops.specs.declared.step.Phase.TheVariants as phase
+use Rattle.net_ops.proofs.{AnswerLemmas.last_value, lemmas.Waits.map_same, lemmas.Waits.late_or, lemmas.Waits.operand_low}
 
 row_value : (net : Netlist) (values : List V4) (s : ℕ) → s < length net.signals → value_at (row_of net values) s ≡ value_at values s
 row_value net values s low = get_or-take (length net.signals) values s Undef low

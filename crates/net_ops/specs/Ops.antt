@@ -2,8 +2,7 @@
 use Rattle.std.specs.Prelude.{ℕ, ◌<◌, List, fold, slice_set, Option}
 use Rattle.logic_four.specs.declared.V4.{V4}
 use Rattle.net_defs.specs.Time.{value_at}
-use Rattle.net_ops.specs.declared.ops.PairOp.{PairOp}
-use Rattle.net_ops.specs.Lanes.{forced}
+use Rattle.net_ops.specs.{declared.ops.PairOp.PairOp, Lanes.forced}
 
 -- what an operation answers
 abbrev pub op_value : {F : Type 0} → (F → V4 → V4 → V4) → List V4 → PairOp F → V4

@@ -1,7 +1,6 @@
 -- The ports of the memories, and where a memory reads.
 use Rattle.std.specs.Prelude.{◌≡◌, ℕ, List, length, Some, slice_get}
-use Rattle.net_defs.specs.declared.netlist.Netlist.{Netlist}
-use Rattle.net_defs.specs.declared.netlist.Block.{Block}
+use Rattle.net_defs.specs.declared.netlist.{Netlist.Netlist, Block.Block}
 use Rattle.net_ops.specs.declared.ram.RamPort.{RamPort}
 
 -- the port has room for each operand and each output of the memory

@@ -1,23 +1,12 @@
 -- What is made before a run.
 use Rattle.std.specs.Prelude.{◌≡◌, ℕ, ◌+◌, ◌<◌, ◌≤◌, false, if◌then◌else◌, List, length, map, Option, Some, None, slice_get, slice_index, slice_index_or, All, AllPairs}
-use Rattle.logic_four.specs.declared.V4.{V4}
-use Rattle.logic_four.specs.Gates.{gate_value}
-use Rattle.net_defs.specs.declared.netlist.Netlist.{Netlist}
-use Rattle.net_defs.specs.declared.netlist.Signal.{Signal}
-use Rattle.net_defs.specs.declared.netlist.Driver.{Driver}
+use Rattle.logic_four.specs.{declared.V4.V4, Gates.gate_value}
 use Rattle.net_defs.specs.declared.netlist.Driver.TheVariants.{Input, Gate, Dff, BlockBit}
-use Rattle.net_defs.specs.declared.timing.Timing.{Timing}
-use Rattle.net_defs.specs.Time.{value_at}
-use Rattle.net_defs.specs.Steps.{is_late}
-use Rattle.net_defs.specs.Loops.{is_gate, IsOrder}
-use Rattle.net_ops.specs.declared.ops.PairOp.{PairOp}
-use Rattle.net_ops.specs.declared.schedule.Giver.{Giver}
+use Rattle.net_defs.specs.declared.{netlist.Netlist.Netlist, netlist.Signal.Signal, netlist.Driver.Driver, timing.Timing.Timing}
+use Rattle.net_defs.specs.{Time.value_at, Steps.is_late, Loops.is_gate, Loops.IsOrder}
+use Rattle.net_ops.specs.declared.{ops.PairOp.PairOp, schedule.Giver.Giver, schedule.Schedule.Schedule, schedule.Source.Source}
+use Rattle.net_ops.specs.{Lanes.forced, Places.place_count, Ops.follow, Ops.IsWithin}
 use Rattle.net_ops.specs.declared.schedule.Giver.TheVariants as giver
-use Rattle.net_ops.specs.declared.schedule.Schedule.{Schedule}
-use Rattle.net_ops.specs.declared.schedule.Source.{Source}
-use Rattle.net_ops.specs.Lanes.{forced}
-use Rattle.net_ops.specs.Places.{place_count}
-use Rattle.net_ops.specs.Ops.{follow, IsWithin}
 
 -- where a gate reads an operand: a late gate among the values of the last turn
 abbrev pub operand_place : Netlist → Timing → ℕ → ℕ → ℕ

@@ -1,18 +1,10 @@
 -- States in place, and a step from one to the next, in which signals may be stuck at a value.
 use Rattle.std.specs.Prelude.{◌≡◌, ℕ, zero, suc, ◌+◌, ◌<◌, ◌≤◌, List, [], length, Option, Some, slice_get, slice_index_or}
-use Rattle.logic_four.specs.declared.V4.{V4}
-use Rattle.logic_four.specs.Memory.{HasShape}
-use Rattle.net_defs.specs.declared.netlist.Netlist.{Netlist}
-use Rattle.net_defs.specs.declared.netlist.Signal.{Signal}
-use Rattle.net_defs.specs.declared.netlist.Block.{Block}
-use Rattle.net_defs.specs.declared.timing.Timing.{Timing}
-use Rattle.net_defs.specs.declared.stimulus.Stimulus.{Stimulus}
-use Rattle.net_defs.specs.Time.{value_at}
+use Rattle.logic_four.specs.{declared.V4.V4, Memory.HasShape}
 use Rattle.net_defs.specs.Steps.{State, words_of, driven, words_after}
-use Rattle.net_ops.specs.declared.ram.RamPort.{RamPort}
-use Rattle.net_ops.specs.declared.state.LaneState.{LaneState}
-use Rattle.net_ops.specs.Lanes.{forced, lane_row}
-use Rattle.net_ops.specs.Places.{place_count, row_of}
+use Rattle.net_defs.specs.declared.{netlist.Netlist.Netlist, netlist.Signal.Signal, netlist.Block.Block, timing.Timing.Timing, stimulus.Stimulus.Stimulus}
+use Rattle.net_defs.specs.Time.{value_at}
+use Rattle.net_ops.specs.{declared.ram.RamPort.RamPort, declared.state.LaneState.LaneState, Lanes.forced, Lanes.lane_row, Places.place_count, Places.row_of}
 use Rattle.net_ops.specs.Rams.{ArePorts}
 
 -- the state of a lane after this turn

@@ -1,7 +1,6 @@
 -- Gates of two operands as tables.
 use Rattle.std.specs.Prelude.{ℕ, ◌+◌, ◌*◌, ◌/◌, ◌%◌, ◌^◌}
-use Rattle.logic_four.specs.declared.V4.{V4}
-use Rattle.logic_four.specs.Values.{code_of, value_of}
+use Rattle.logic_four.specs.{declared.V4.V4, Values.code_of, Values.value_of}
 
 -- what a table answers for two values
 abbrev pub table_value : ℕ → V4 → V4 → V4

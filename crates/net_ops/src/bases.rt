@@ -1,13 +1,9 @@
 //! What the signals have that are no gates.
 
 ghost use Rattle.std.specs.Prelude.{◌≡◌, ◌<◌, ℕ, length};
-ghost use Rattle.net_defs.specs.Time.{value_at, initial_value};
-ghost use Rattle.net_defs.specs.Valid.{IsValid};
-ghost use Rattle.net_ops.specs.Lanes.{lane_row};
-ghost use Rattle.net_ops.specs.Places.{place_count};
+ghost use Rattle.net_defs.specs.{Time.value_at, Time.initial_value, Valid.IsValid};
+ghost use Rattle.net_ops.specs.{Lanes.lane_row, Places.place_count, Schedules.AreSources, code.States.by_phase, code.States.given_value, code.States.AreBases};
 ghost use Rattle.net_ops.specs.declared.schedule.Giver.TheVariants as Giver;
-ghost use Rattle.net_ops.specs.Schedules.{AreSources};
-ghost use Rattle.net_ops.specs.code.States.{by_phase, given_value, AreBases};
 
 use crate::schedule::{Giver, Source};
 use crate::step::Phase;

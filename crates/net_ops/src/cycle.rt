@@ -1,11 +1,8 @@
 //! The turns of a cycle.
 
 ghost use Rattle.std.specs.Prelude.{◌≡◌, ◌*◌, ◌<◌, ◌==◌, ℕ, [], length, slice_index_or};
-ghost use Rattle.net_defs.specs.declared.stimulus.Stimulus.{Stimulus};
-ghost use Rattle.net_defs.specs.Time.{cycle_rows};
-ghost use Rattle.net_defs.specs.Valid.{IsValid};
-ghost use Rattle.net_ops.specs.Schedules.{IsSchedule};
-ghost use Rattle.net_ops.specs.States.{lane_state, IsReady, Passes};
+ghost use Rattle.net_defs.specs.{declared.stimulus.Stimulus.Stimulus, Time.cycle_rows, Valid.IsValid};
+ghost use Rattle.net_ops.specs.{Schedules.IsSchedule, States.lane_state, States.IsReady, States.Passes};
 
 use crate::ram::RamPort;
 use crate::schedule::Schedule;

@@ -2,15 +2,11 @@
 
 ghost use Rattle.std.specs.Prelude.{◌≡◌, ◌≢◌, ◌+◌, ◌*◌, ◌^◌, ◌<◌, ◌≤◌, ◌∷◌, [], ◌++◌, ℕ, true, false, length, map, All, Contains, IfOk, OnOk, IsTrue, if◌then◌else◌};
 ghost use Rattle.limits.specs.declared.TheConstants.{MAX_SIGNALS};
-ghost use Rattle.logic_four.specs.Gates.{gate_value};
-ghost use Rattle.logic_four.specs.Kinds.{AllowsOperands};
-ghost use Rattle.logic_four.specs.Folds.{takes_many};
-ghost use Rattle.net_defs.specs.Time.{value_at};
-ghost use Rattle.net_defs.specs.Steps.{is_late};
+ghost use Rattle.logic_four.specs.{Gates.gate_value, Kinds.AllowsOperands, Folds.takes_many};
 ghost use Rattle.net_defs.specs.Valid.{IsValid, IsValidTiming, IsSignal, IsDrivable};
 ghost use Rattle.net_defs.specs.Loops.{IsGate, IsOrder, is_gate_driver, waits_for, gate_operands};
-ghost use Rattle.net_ops.specs.Schedules.{here_driven, here_value, Settles};
-ghost use Rattle.net_ops.specs.code.Sequences.{Adds};
+ghost use Rattle.net_defs.specs.{Time.value_at, Steps.is_late};
+ghost use Rattle.net_ops.specs.{Schedules.here_driven, Schedules.here_value, Schedules.Settles, code.Sequences.Adds};
 
 use crate::ops::PairOp;
 use crate::wire::Wire;

@@ -3,11 +3,8 @@
 ghost use Rattle.std.specs.Prelude.{◌≡◌, ◌≤◌, ◌<◌, ℕ, [], length, slice_index_or, replicate, IfOk};
 ghost use Rattle.limits.specs.declared.TheConstants.{MAX_ADDRESS_BITS, MAX_WORD_BITS};
 ghost use Rattle.logic_four.specs.Memory.{initial_words};
-ghost use Rattle.net_defs.specs.Steps.{first_state};
-ghost use Rattle.net_defs.specs.Valid.{IsValid};
-ghost use Rattle.net_ops.specs.Places.{place_count};
-ghost use Rattle.net_ops.specs.States.{lane_state, AreShaped};
-ghost use Rattle.net_ops.specs.code.States.{initial_memories};
+ghost use Rattle.net_defs.specs.{Steps.first_state, Valid.IsValid};
+ghost use Rattle.net_ops.specs.{Places.place_count, States.lane_state, States.AreShaped, code.States.initial_memories};
 
 use crate::state::LaneState;
 use crate::wire::Wire;

@@ -1,8 +1,7 @@
 //! Operations on two places of a row.
 
 ghost use Rattle.std.specs.Prelude.{◌≡◌, ◌<◌, ◌≤◌, ℕ, length, All};
-ghost use Rattle.net_ops.specs.Lanes.{lane_row};
-ghost use Rattle.net_ops.specs.Ops.{IsWithin, follow};
+ghost use Rattle.net_ops.specs.{Lanes.lane_row, Ops.IsWithin, Ops.follow};
 
 use crate::wire::Wire;
 

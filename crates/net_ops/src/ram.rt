@@ -1,17 +1,10 @@
 //! The memories at an edge: the words that they read, and those that they write.
 
 ghost use Rattle.std.specs.Prelude.{◌≡◌, ◌≢◌, ◌<◌, ◌≤◌, ℕ, [], length, slice_index_or, IfOk};
-ghost use Rattle.logic_four.specs.declared.V4.{V4};
-ghost use Rattle.logic_four.specs.Memory.{HasShape};
+ghost use Rattle.logic_four.specs.{declared.V4.V4, Memory.HasShape};
 ghost use Rattle.net_defs.specs.Valid.{IsValid};
-ghost use Rattle.net_ops.specs.Lanes.{lane_row};
-ghost use Rattle.net_ops.specs.Places.{place_count};
-ghost use Rattle.net_ops.specs.code.Places.{last_row};
-ghost use Rattle.net_ops.specs.Rams.{FitsPort, ArePorts};
-ghost use Rattle.net_ops.specs.States.{AreShaped};
-ghost use Rattle.net_ops.specs.code.Rams.{ReadsWithin, act_over};
-ghost use Rattle.net_ops.specs.code.States.{HasActed};
-ghost use Rattle.net_ops.specs.code.Values.{IsStagedTo, Puts};
+ghost use Rattle.net_ops.specs.{Lanes.lane_row, Places.place_count, code.Places.last_row, Rams.FitsPort, Rams.ArePorts, States.AreShaped};
+ghost use Rattle.net_ops.specs.code.{Rams.ReadsWithin, Rams.act_over, States.HasActed, Values.IsStagedTo, Values.Puts};
 
 use crate::values::{gather, put_all};
 use crate::wire::Wire;

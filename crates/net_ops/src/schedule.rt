@@ -2,8 +2,7 @@
 
 ghost use Rattle.std.specs.Prelude.{◌≡◌, ◌+◌, ◌≤◌, length, IfOk, OnOk};
 ghost use Rattle.limits.specs.declared.TheConstants.{MAX_SIGNALS};
-ghost use Rattle.net_defs.specs.Loops.{IsOrder};
-ghost use Rattle.net_defs.specs.Valid.{IsValid, IsValidTiming, IsSignal};
+ghost use Rattle.net_defs.specs.{Loops.IsOrder, Valid.IsValid, Valid.IsValidTiming, Valid.IsSignal};
 ghost use Rattle.net_ops.specs.Schedules.{AreSources, IsSchedule, IsTakenFrom, giver_of};
 
 use crate::gate_list::signal_ops;

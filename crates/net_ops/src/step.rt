@@ -1,14 +1,10 @@
 //! One turn, in place, in all lanes at once.
 
 ghost use Rattle.std.specs.Prelude.{◌≡◌, ◌<◌, ◌≤◌, ℕ, [], length, slice_index_or};
-ghost use Rattle.net_defs.specs.Valid.{IsValid};
-ghost use Rattle.net_defs.specs.Loops.{is_gate};
-ghost use Rattle.net_ops.specs.Lanes.{forced, lane_row};
-ghost use Rattle.net_ops.specs.Places.{place_count, row_of};
-ghost use Rattle.net_ops.specs.Rams.{ArePorts};
-ghost use Rattle.net_ops.specs.Schedules.{here_value, AreSources, IsSchedule};
-ghost use Rattle.net_ops.specs.States.{lane_state, IsReady};
+ghost use Rattle.net_defs.specs.{Valid.IsValid, Loops.is_gate};
 ghost use Rattle.net_ops.specs.code.States.{last_state, phase_at, Assigns, HasHeld, HasSources, StepsBy, WordsBy};
+ghost use Rattle.net_ops.specs.{Lanes.forced, Lanes.lane_row, Places.place_count, Places.row_of, Rams.ArePorts};
+ghost use Rattle.net_ops.specs.{Schedules.here_value, Schedules.AreSources, Schedules.IsSchedule, States.lane_state, States.IsReady};
 
 use crate::bases::set_bases;
 use crate::ops::do_ops;

@@ -1,8 +1,7 @@
 //! Gates of two operands as tables of all sixteen answers.
 
 ghost use Rattle.std.specs.Prelude.{◌≡◌, ◌∷◌, []};
-ghost use Rattle.logic_four.specs.declared.V4.{V4};
-ghost use Rattle.logic_four.specs.Gates.{gate_value};
+ghost use Rattle.logic_four.specs.{declared.V4.V4, Gates.gate_value};
 ghost use Rattle.net_ops.specs.Tables.{table_value};
 
 use logic_four::{Kind, V4, code, decoded};

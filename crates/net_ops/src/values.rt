@@ -3,8 +3,7 @@
 ghost use Rattle.std.specs.Prelude.{◌≡◌, ◌≢◌, ℕ, ◌+◌, ◌<◌, ◌≤◌, length, map, All};
 ghost use Rattle.logic_four.specs.declared.V4.{V4};
 ghost use Rattle.net_defs.specs.Time.{value_at};
-ghost use Rattle.net_ops.specs.Lanes.{lane_row};
-ghost use Rattle.net_ops.specs.code.Values.{Puts, IsStagedTo, Keeps};
+ghost use Rattle.net_ops.specs.{Lanes.lane_row, code.Values.Puts, code.Values.IsStagedTo, code.Values.Keeps};
 
 use crate::wire::Wire;
 use logic_four::V4;

@@ -1,12 +1,8 @@
 //! What stands in a place of a row.
 
 ghost use Rattle.std.specs.Prelude.{◌≡◌, ◌≢◌, ◌∷◌, [], ℕ, ◌<◌, Option, None};
-ghost use Rattle.logic_four.specs.declared.V4.{V4};
-ghost use Rattle.logic_four.specs.Values.{settled};
-ghost use Rattle.logic_four.specs.Gates.{gate_value};
-ghost use Rattle.logic_four.specs.Kinds.{AllowsOperands};
-ghost use Rattle.net_ops.specs.Lanes.{forced};
-ghost use Rattle.net_ops.specs.Tables.{table_value};
+ghost use Rattle.logic_four.specs.{declared.V4.V4, Values.settled, Gates.gate_value, Kinds.AllowsOperands};
+ghost use Rattle.net_ops.specs.{Lanes.forced, Tables.table_value};
 
 use crate::tables::{pair_table, table_value};
 use logic_four::{Kind, V4, lone_kind, settle};

@@ -1,12 +1,9 @@
 -- Where each state has exactly one next one, there is exactly one list of states from the first one on.
 use Rattle.std.proofs.Common.{◌≡◌, ◌∙◌, ℕ, zero, suc, ◌+◌, ◌<◌, List, length, map, get_or, refl, sym, ap, subst, arith}
-use Rattle.std.specs.Prelude.{Some, slice_get}
-use Rattle.std.specs.List.{range_with_len}
-use Rattle.std.proofs.lemmas.Option.{slice_get-get_or, slice_get_within, get_or_from_slice_get}
-use Rattle.std.proofs.lemmas.List.{same_lists}
+use Rattle.std.proofs.lemmas.{Option.slice_get-get_or, Option.slice_get_within, Option.get_or_from_slice_get, List.same_lists}
 use Rattle.std.proofs.lemmas.List.FromFn.{length-map-range_with_len, get_or-map-range_with_len}
-use Rattle.list_laws.proofs.Members.{member_at}
-use Rattle.list_laws.proofs.Options.{one_some}
+use Rattle.std.specs.{Prelude.Some, Prelude.slice_get, List.range_with_len}
+use Rattle.list_laws.proofs.{Members.member_at, Options.one_some}
 
 module _ {S : Type 0} (first : S) (Step : ℕ → S → S → Type 0) (next : ℕ → S → S)
     (right : (turn : ℕ) (old : S) → Step turn old (next turn old))

@@ -1,36 +1,19 @@
 -- The own node of a gate has what the gate answers for its operands.
 use Rattle.std.proofs.Common.{◌≡◌, ◌∙◌, ◌⊎◌, inl, inr, ℕ, ◌+◌, ◌-◌, ◌<◌, ◌≤◌, nat_lt, Bool, true, false, if◌then◌else◌, IsTrue, List, length, map, get_or, refl, sym, ap, arith}
+use Rattle.std.proofs.lemmas.{Bool.cases_lt, Bool.lt-ltb, Bool.le-ltb, Bool.Decides.nat_tests, List.same_lists, List.length-map, List.get_or-map}
+use Rattle.std.proofs.lemmas.List.{Elements.All-get_or, FromFn.length-map-range_with_len, FromFn.get_or-map-range_with_len}
 use Rattle.std.specs.Prelude.{Option, Some, None, slice_get, All}
 use Rattle.std.specs.List.{range_with_len}
-use Rattle.std.proofs.lemmas.Bool.{cases_lt, lt-ltb, le-ltb}
-use Rattle.std.proofs.lemmas.Bool.Decides.{nat_tests}
-use Rattle.std.proofs.lemmas.List.{same_lists, length-map, get_or-map}
-use Rattle.std.proofs.lemmas.List.Elements.{All-get_or}
-use Rattle.std.proofs.lemmas.List.FromFn.{length-map-range_with_len, get_or-map-range_with_len}
-use Rattle.logic_four.specs.declared.V4.{V4}
-use Rattle.logic_four.specs.declared.Kind.{Kind}
-use Rattle.logic_four.specs.Gates.{gate_value}
-use Rattle.logic_four.specs.Kinds.{AllowsOperands}
-use Rattle.logic_four.specs.Folds.{takes_many, base_kind}
-use Rattle.net_defs.specs.declared.netlist.Netlist.{Netlist}
-use Rattle.net_defs.specs.declared.netlist.Signal.{Signal}
+use Rattle.logic_four.specs.{declared.V4.V4, declared.Kind.Kind, Gates.gate_value, Kinds.AllowsOperands, Folds.takes_many, Folds.base_kind}
+use Rattle.net_defs.specs.declared.{netlist.Netlist.Netlist, netlist.Signal.Signal, timing.Timing.Timing, stimulus.Stimulus.Stimulus}
+use Rattle.net_defs.specs.{Time.value_at, Steps.State, Steps.is_late, Steps.values_of, Valid.IsSignal}
 use Rattle.net_defs.specs.declared.netlist.Driver.TheVariants as driver
-use Rattle.net_defs.specs.declared.timing.Timing.{Timing}
-use Rattle.net_defs.specs.declared.stimulus.Stimulus.{Stimulus}
-use Rattle.net_defs.specs.Time.{value_at}
-use Rattle.net_defs.specs.Steps.{State, is_late, values_of}
-use Rattle.net_defs.specs.Valid.{IsSignal}
-use Rattle.node_defs.specs.declared.groups.Group.{Group}
-use Rattle.node_defs.specs.declared.items.Item.{Item}
-use Rattle.node_defs.specs.declared.items.NodeNet.{NodeNet}
-use Rattle.node_defs.specs.Groups.{groups, group_at, helper_count}
 use Rattle.node_defs.specs.Items.{own, helper_of, IsNamed, IsNode, IsGateItem}
-use Rattle.node_defs.specs.Order.{AreItems}
-use Rattle.node_defs.specs.Values.{IsItemStep, item_value}
-use Rattle.node_defs.proofs.lemmas.GroupLemmas.{groups_narrow}
-use Rattle.node_defs.proofs.lemmas.LevelLemmas.{wires, Helps, levels_fold}
-use Rattle.node_defs.proofs.NodeLemmas.{node_is}
+use Rattle.node_defs.specs.declared.{groups.Group.Group, items.Item.Item, items.NodeNet.NodeNet}
+use Rattle.node_defs.specs.{Groups.groups, Groups.group_at, Groups.helper_count, Order.AreItems, Values.IsItemStep, Values.item_value}
 use Rattle.node_defs.proofs.SeenLemmas.{item_named, item_of_signal, number, number_is, number_named, seen, seen_at}
+use Rattle.node_defs.proofs.lemmas.{GroupLemmas.groups_narrow, LevelLemmas.wires, LevelLemmas.Helps, LevelLemmas.levels_fold}
+use Rattle.node_defs.proofs.NodeLemmas.{node_is}
 
 -- a kind that takes no more than four operands, or any number
 many_or_few : (kind : Kind) (n : ℕ) → AllowsOperands kind n → IsTrue (takes_many kind) ⊎ (n ≤ 4)

@@ -1,22 +1,12 @@
 -- A node answers what its kind answers over the wires of its group.
 use Rattle.std.proofs.Common.{◌≡◌, ◌∙◌, ◌⊎◌, inl, inr, ℕ, zero, suc, ◌+◌, ◌-◌, ◌<◌, ◌≤◌, nat_lt, Bool, true, false, if◌then◌else◌, List, [], ◌∷◌, length, map, take, get_or, refl, ap, arith}
-use Rattle.std.specs.List.{range_with_len}
 use Rattle.std.proofs.lemmas.Bool.{cases_lt, lt-ltb, le-ltb}
-use Rattle.logic_four.specs.declared.V4.{V4}
-use Rattle.logic_four.specs.declared.V4.TheVariants.{Undef}
-use Rattle.logic_four.specs.declared.Kind.{Kind}
-use Rattle.logic_four.specs.Gates.{gate_value}
-use Rattle.net_defs.specs.Time.{value_at}
-use Rattle.net_defs.specs.Steps.{State}
-use Rattle.func_table.specs.declared.table.Table.{Table}
-use Rattle.std.specs.Prelude.{slice_get}
-use Rattle.node_defs.specs.declared.groups.Group.{Group}
-use Rattle.node_defs.specs.declared.items.Feed.TheVariants.{From}
-use Rattle.node_defs.specs.declared.items.Feeds.{Feeds}
-use Rattle.node_defs.specs.declared.items.Item.{Item}
-use Rattle.node_defs.specs.declared.items.ItemName.{ItemName}
+use Rattle.std.specs.{List.range_with_len, Prelude.slice_get}
+use Rattle.logic_four.specs.{declared.V4.V4, declared.V4.TheVariants.Undef, declared.Kind.Kind, Gates.gate_value}
+use Rattle.net_defs.specs.{Time.value_at, Steps.State}
+use Rattle.func_table.specs.{declared.table.Table.Table, Entries.looked_up}
 use Rattle.node_defs.specs.Items.{own, helper_of, IsNamed, wire_name, wire_tag, feed_at, IsNode}
-use Rattle.func_table.specs.Entries.{looked_up}
+use Rattle.node_defs.specs.declared.{groups.Group.Group, items.Feed.TheVariants.From, items.Feeds.Feeds, items.Item.Item, items.ItemName.ItemName}
 use Rattle.node_defs.specs.Values.{feed_value}
 use Rattle.node_defs.proofs.lemmas.LevelLemmas.{wires}
 

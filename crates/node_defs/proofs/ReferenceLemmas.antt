@@ -1,30 +1,16 @@
 -- The values of the items, as the signals see them, are the reference simulation.
 use Rattle.std.proofs.Common.{◌≡◌, ◌∙◌, ℕ, ◌+◌, ◌<◌, List, length, map, get_or, replicate, refl, sym, ap, subst, arith}
+use Rattle.std.proofs.lemmas.List.{same_lists, length-map, get_or-replicate, length-replicate}
+use Rattle.std.proofs.lemmas.{Option.slice_get_within, Option.slice_get-map, List.FromFn.length-map-range_with_len, List.FromFn.get_or-map-range_with_len}
 use Rattle.std.specs.Prelude.{Option, Some, None, slice_get, option_map}
 use Rattle.std.specs.List.{range_with_len}
-use Rattle.std.proofs.lemmas.Option.{slice_get_within, slice_get-map}
-use Rattle.std.proofs.lemmas.List.{same_lists, length-map, get_or-replicate, length-replicate}
-use Rattle.std.proofs.lemmas.List.FromFn.{length-map-range_with_len, get_or-map-range_with_len}
-use Rattle.list_laws.proofs.Members.{member_at, map_at, mapped_at}
-use Rattle.list_laws.proofs.Options.{one_some}
-use Rattle.logic_four.specs.declared.V4.{V4}
-use Rattle.logic_four.specs.declared.V4.TheVariants.{Undef}
-use Rattle.logic_four.specs.Memory.{initial_words}
+use Rattle.list_laws.proofs.{Members.member_at, Members.map_at, Members.mapped_at, Options.one_some}
+use Rattle.logic_four.specs.{declared.V4.V4, declared.V4.TheVariants.Undef, Memory.initial_words}
 use Rattle.logic_four.proofs.lemmas.CodeLemmas.{undefined_at}
-use Rattle.net_defs.specs.declared.netlist.Netlist.{Netlist}
-use Rattle.net_defs.specs.declared.netlist.Signal.{Signal}
-use Rattle.net_defs.specs.declared.netlist.Block.{Block}
-use Rattle.net_defs.specs.declared.timing.Timing.{Timing}
-use Rattle.net_defs.specs.declared.stimulus.Stimulus.{Stimulus}
-use Rattle.net_defs.specs.Time.{value_at, initial_value}
-use Rattle.net_defs.specs.Steps.{State, IsRightStep, first_state}
-use Rattle.net_defs.specs.Reference.{IsSimulation}
-use Rattle.net_defs.specs.Valid.{IsValid}
-use Rattle.node_defs.specs.declared.items.Item.{Item}
-use Rattle.node_defs.specs.declared.items.NodeBlock.{NodeBlock}
-use Rattle.node_defs.specs.declared.items.NodeNet.{NodeNet}
+use Rattle.net_defs.specs.declared.{netlist.Netlist.Netlist, netlist.Signal.Signal, netlist.Block.Block, timing.Timing.Timing, stimulus.Stimulus.Stimulus}
+use Rattle.net_defs.specs.{Time.value_at, Time.initial_value, Steps.State, Steps.IsRightStep, Steps.first_state, Reference.IsSimulation, Valid.IsValid}
 use Rattle.node_defs.specs.Items.{own, IsNamed, IsItem, IsNodeBlock}
-use Rattle.node_defs.specs.Order.{AreItems}
+use Rattle.node_defs.specs.{declared.items.Item.Item, declared.items.NodeBlock.NodeBlock, declared.items.NodeNet.NodeNet, Order.AreItems}
 use Rattle.node_defs.specs.Values.{first_items, AreItemValues, AreReferenceValues}
 use Rattle.node_defs.proofs.SeenLemmas.{item_named, number, seen, seen_value}
 use Rattle.node_defs.proofs.StepLemmas.{right_step}

@@ -1,29 +1,17 @@
 -- The items have exactly one run of values: each state is grown from the one before, item by item.
 use Rattle.std.proofs.Common.{◌≡◌, ◌∙◌, ◌⊎◌, inl, inr, ℕ, zero, suc, ◌+◌, ◌<◌, ◌≤◌, List, [], ◌∷◌, ◌++◌, length, map, refl, sym, ap, arith}
+use Rattle.std.proofs.lemmas.List.{same_lists, length_push, get_or_append_left, get_or_push, get_or_past, get_or_default}
+use Rattle.std.proofs.lemmas.{Bool.cases_lt, Option.slice_get_within, List.FromFn.length-map-range_with_len, List.FromFn.get_or-map-range_with_len}
 use Rattle.std.specs.Prelude.{Option, Some, None, slice_get}
 use Rattle.std.specs.List.{range_with_len}
-use Rattle.std.proofs.lemmas.Bool.{cases_lt}
-use Rattle.std.proofs.lemmas.Option.{slice_get_within}
-use Rattle.std.proofs.lemmas.List.{same_lists, length_push, get_or_append_left, get_or_push, get_or_past, get_or_default}
-use Rattle.std.proofs.lemmas.List.FromFn.{length-map-range_with_len, get_or-map-range_with_len}
 use Rattle.list_laws.proofs.Members.{member_at}
-use Rattle.logic_four.specs.declared.V4.{V4}
-use Rattle.logic_four.specs.declared.V4.TheVariants.{Undef}
-use Rattle.net_defs.specs.declared.netlist.Netlist.{Netlist}
-use Rattle.net_defs.specs.declared.timing.Timing.{Timing}
-use Rattle.net_defs.specs.declared.stimulus.Stimulus.{Stimulus}
-use Rattle.net_defs.specs.Time.{value_at, turn_count}
+use Rattle.logic_four.specs.declared.V4.{V4, TheVariants.Undef}
+use Rattle.net_defs.specs.{declared.netlist.Netlist.Netlist, declared.timing.Timing.Timing, declared.stimulus.Stimulus.Stimulus, Time.value_at, Time.turn_count}
 use Rattle.net_defs.specs.Steps.{State, words_of}
-use Rattle.node_defs.specs.declared.items.Tag.TheVariants.{This, Last}
-use Rattle.node_defs.specs.declared.items.Feed.{Feed}
-use Rattle.node_defs.specs.declared.items.Feed.TheVariants.{From, Fixed}
-use Rattle.node_defs.specs.declared.items.Item.{Item}
-use Rattle.node_defs.specs.declared.items.Item.TheVariants.{Node}
-use Rattle.node_defs.specs.declared.items.NodeBlock.{NodeBlock}
-use Rattle.node_defs.specs.declared.items.NodeNet.{NodeNet}
-use Rattle.node_defs.specs.Items.{feed_at}
-use Rattle.node_defs.specs.Order.{AreItems}
 use Rattle.node_defs.specs.Values.{feed_value, item_value, block_words_after, IsItemStep, first_items, HaveOneRun}
+use Rattle.node_defs.specs.declared.items.{Tag.TheVariants.This, Tag.TheVariants.Last, Feed.Feed, Feed.TheVariants.From, Feed.TheVariants.Fixed, Item.Item}
+use Rattle.node_defs.specs.{declared.items.Item.TheVariants.Node, declared.items.NodeBlock.NodeBlock, declared.items.NodeNet.NodeNet, Items.feed_at}
+use Rattle.node_defs.specs.Order.{AreItems}
 use Rattle.node_defs.proofs.ChainLemmas.{states_to, states_count, states_first, states_step, states_only}
 use Rattle.node_defs.proofs.lemmas.EarlierLemmas.{earlier}
 

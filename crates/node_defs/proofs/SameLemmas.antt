@@ -1,42 +1,23 @@
 -- Two lists of items of one netlist stand in the same order and hold the same items.
 use Rattle.std.proofs.Common.{◌≡◌, ◌∙◌, ◌⊎◌, inl, inr, ℕ, zero, suc, ◌+◌, ◌<◌, ◌≤◌, nat_lt, Bool, if◌then◌else◌, List, [], ◌∷◌, length, get_or, refl, sym, ap, subst, arith}
-use Rattle.std.specs.Prelude.{◌↔◌, Option, Some, None, slice_get}
 use Rattle.std.proofs.lemmas.Bool.{cases_lt, cases_order, lt-ltb, le-ltb}
-use Rattle.std.proofs.lemmas.Bool.Decides.{nat_tests}
 use Rattle.std.proofs.lemmas.Option.{slice_get-get_or, slice_get_within, get_or_from_slice_get, none-some}
-use Rattle.std.proofs.lemmas.List.{same_lists, get_or_default}
-use Rattle.list_laws.proofs.Members.{member_at}
-use Rattle.list_laws.proofs.Options.{one_some}
-use Rattle.logic_four.specs.declared.V4.{V4}
-use Rattle.logic_four.specs.declared.V4.TheVariants.{Zero}
-use Rattle.logic_four.specs.declared.Kind.{Kind}
-use Rattle.net_defs.specs.declared.netlist.Netlist.{Netlist}
-use Rattle.net_defs.specs.declared.netlist.Signal.{Signal}
-use Rattle.net_defs.specs.declared.netlist.Block.{Block}
-use Rattle.net_defs.specs.declared.netlist.Driver.{Driver}
-use Rattle.net_defs.specs.declared.netlist.Driver.TheVariants as driver
-use Rattle.net_defs.specs.declared.timing.Timing.{Timing}
+use Rattle.std.proofs.lemmas.{Bool.Decides.nat_tests, List.same_lists, List.get_or_default}
+use Rattle.std.specs.Prelude.{◌↔◌, Option, Some, None, slice_get}
+use Rattle.list_laws.proofs.{Members.member_at, Options.one_some}
+use Rattle.logic_four.specs.declared.{V4.V4, V4.TheVariants.Zero, Kind.Kind}
+use Rattle.net_defs.specs.declared.{netlist.Netlist.Netlist, netlist.Signal.Signal, netlist.Block.Block, netlist.Driver.Driver, timing.Timing.Timing}
 use Rattle.net_defs.specs.Steps.{is_late}
-use Rattle.func_table.specs.declared.table.Table.{Table}
-use Rattle.node_defs.specs.declared.groups.Group.{Group}
-use Rattle.node_defs.specs.declared.items.Tag.{Tag}
-use Rattle.node_defs.specs.declared.items.Tag.TheVariants.{This, Last}
-use Rattle.node_defs.specs.declared.items.Feed.{Feed}
-use Rattle.node_defs.specs.declared.items.Feed.TheVariants.{From, Fixed}
-use Rattle.node_defs.specs.declared.items.Feeds.{Feeds}
-use Rattle.node_defs.specs.declared.items.Item.{Item}
+use Rattle.net_defs.specs.declared.netlist.Driver.TheVariants as driver
+use Rattle.func_table.specs.{declared.table.Table.Table, Entries.looked_up, Entries.entry_for, Shelf.AreDifferent}
 use Rattle.node_defs.specs.declared.items.Item.TheVariants.{Input, BlockBit, Node, Latch}
-use Rattle.node_defs.specs.declared.items.ItemName.{ItemName}
-use Rattle.node_defs.specs.declared.items.NodeBlock.{NodeBlock}
-use Rattle.node_defs.specs.declared.items.NodeNet.{NodeNet}
 use Rattle.node_defs.specs.Items.{own, IsNamed, wire_name, wire_tag, feed_at, IsNode, IsItemOf, IsItem, IsAmong, helpers_of, StandFor, IsNodeBlock}
 use Rattle.node_defs.specs.Order.{class_of, rank_after_feed, rank_of, Key, key_of, HelperBefore, Before, AreItems}
-use Rattle.node_defs.specs.Same.{IsSameTable, AreSameItem, AreSameItems}
-use Rattle.func_table.specs.Entries.{looked_up, entry_for}
-use Rattle.func_table.specs.Shelf.{AreDifferent}
+use Rattle.node_defs.specs.declared.{groups.Group.Group, items.Tag.Tag, items.Tag.TheVariants.This, items.Tag.TheVariants.Last, items.Feed.Feed}
+use Rattle.node_defs.specs.declared.items.{Feed.TheVariants.From, Feed.TheVariants.Fixed, Feeds.Feeds, Item.Item, ItemName.ItemName, NodeBlock.NodeBlock}
+use Rattle.node_defs.specs.{declared.items.NodeNet.NodeNet, Same.IsSameTable, Same.AreSameItem, Same.AreSameItems}
 use Rattle.func_table.proofs.EntryLemmas.{same_entries}
-use Rattle.node_defs.proofs.SeenLemmas.{item_named}
-use Rattle.node_defs.proofs.lemmas.EarlierLemmas.{earlier, table_there}
+use Rattle.node_defs.proofs.{SeenLemmas.item_named, lemmas.EarlierLemmas.earlier, lemmas.EarlierLemmas.table_there}
 
 -- lists that hold the same at each place
 lists_same : {X : Type 0} (xs ys : List X) → ((k : ℕ) → slice_get xs k ≡ slice_get ys k) → xs ≡ ys

@@ -1,24 +1,14 @@
 -- The states of the items as the signals see them: each signal has what its item has.
 use Rattle.std.proofs.Common.{◌≡◌, ◌∙◌, ℕ, ◌<◌, List, length, map, get_or, refl, sym, ap, arith}
+use Rattle.std.proofs.lemmas.{Option.slice_get-get_or, Option.slice_get_within, List.same_lists, List.length-map, List.get_or-map, List.Elements.All-get_or}
+use Rattle.std.proofs.lemmas.List.FromFn.{get_or-map-range_with_len}
 use Rattle.std.specs.Prelude.{Option, Some, None, slice_get, All}
 use Rattle.std.specs.List.{range_with_len}
-use Rattle.std.proofs.lemmas.Option.{slice_get-get_or, slice_get_within}
-use Rattle.std.proofs.lemmas.List.{same_lists, length-map, get_or-map}
-use Rattle.std.proofs.lemmas.List.Elements.{All-get_or}
-use Rattle.std.proofs.lemmas.List.FromFn.{get_or-map-range_with_len}
-use Rattle.logic_four.specs.declared.V4.{V4}
-use Rattle.logic_four.specs.declared.V4.TheVariants.{Undef}
-use Rattle.net_defs.specs.declared.netlist.Netlist.{Netlist}
-use Rattle.net_defs.specs.declared.netlist.Signal.{Signal}
-use Rattle.net_defs.specs.declared.timing.Timing.{Timing}
-use Rattle.net_defs.specs.Time.{value_at}
-use Rattle.net_defs.specs.Steps.{State, values_of, is_late}
-use Rattle.net_defs.specs.Valid.{IsSignal}
-use Rattle.node_defs.specs.declared.items.Item.{Item}
-use Rattle.node_defs.specs.declared.items.Item.TheVariants.{Input}
-use Rattle.node_defs.specs.declared.items.ItemName.{ItemName}
-use Rattle.node_defs.specs.declared.items.NodeNet.{NodeNet}
+use Rattle.logic_four.specs.declared.V4.{V4, TheVariants.Undef}
+use Rattle.net_defs.specs.{declared.netlist.Netlist.Netlist, declared.netlist.Signal.Signal, declared.timing.Timing.Timing, Time.value_at}
+use Rattle.net_defs.specs.{Steps.State, Steps.values_of, Steps.is_late, Valid.IsSignal}
 use Rattle.node_defs.specs.Items.{own, IsNamed, IsItem, IsItemOf, StandFor}
+use Rattle.node_defs.specs.declared.items.{Item.Item, Item.TheVariants.Input, ItemName.ItemName, NodeNet.NodeNet}
 use Rattle.node_defs.specs.Order.{AreItems}
 
 module _ (net : Netlist) (timing : Timing) (nodes : NodeNet) (are : AreItems net timing nodes) where

@@ -1,30 +1,17 @@
 -- A right step of the items is, as the signals see it, a right step of the netlist; so the values of
 -- the items are those of a reference simulation.
 use Rattle.std.proofs.Common.{◌≡◌, ◌∙◌, ℕ, ◌<◌, if◌then◌else◌, List, length, refl, sym, ap, subst, arith}
+use Rattle.std.proofs.lemmas.{Option.slice_get_within, List.FromFn.length-map-range_with_len}
 use Rattle.std.specs.Prelude.{Option, Some, None, slice_get}
-use Rattle.std.proofs.lemmas.Option.{slice_get_within}
-use Rattle.std.proofs.lemmas.List.FromFn.{length-map-range_with_len}
-use Rattle.list_laws.proofs.Members.{member_at}
-use Rattle.list_laws.proofs.Places.{within_some}
-use Rattle.logic_four.specs.declared.V4.{V4}
-use Rattle.logic_four.specs.Values.{settled}
-use Rattle.logic_four.specs.Memory.{memory_act}
-use Rattle.net_defs.specs.declared.netlist.Netlist.{Netlist}
-use Rattle.net_defs.specs.declared.netlist.Signal.{Signal}
-use Rattle.net_defs.specs.declared.netlist.Block.{Block}
-use Rattle.net_defs.specs.declared.netlist.Driver.{Driver}
-use Rattle.net_defs.specs.declared.netlist.Driver.TheVariants as driver
-use Rattle.net_defs.specs.declared.timing.Timing.{Timing}
-use Rattle.net_defs.specs.declared.stimulus.Stimulus.{Stimulus}
-use Rattle.net_defs.specs.Time.{value_at, is_edge}
+use Rattle.list_laws.proofs.{Members.member_at, Places.within_some}
+use Rattle.logic_four.specs.{declared.V4.V4, Values.settled, Memory.memory_act}
 use Rattle.net_defs.specs.Steps.{State, is_late, values_of, words_of, act_of, output_bit, registered, driven, words_after, IsRightStep}
-use Rattle.net_defs.specs.Valid.{IsValid, IsDrivable}
-use Rattle.node_defs.specs.declared.items.Item.{Item}
-use Rattle.node_defs.specs.declared.items.NodeBlock.{NodeBlock}
-use Rattle.node_defs.specs.declared.items.NodeNet.{NodeNet}
-use Rattle.node_defs.specs.Items.{own, IsItemOf, IsNodeBlock}
-use Rattle.node_defs.specs.Order.{AreItems}
+use Rattle.net_defs.specs.declared.{netlist.Netlist.Netlist, netlist.Signal.Signal, netlist.Block.Block, netlist.Driver.Driver, timing.Timing.Timing}
+use Rattle.net_defs.specs.{declared.stimulus.Stimulus.Stimulus, Time.value_at, Time.is_edge, Valid.IsValid, Valid.IsDrivable}
+use Rattle.net_defs.specs.declared.netlist.Driver.TheVariants as driver
 use Rattle.node_defs.specs.Values.{block_act, block_bit, item_value, block_words_after, IsItemStep}
+use Rattle.node_defs.specs.declared.items.{Item.Item, NodeBlock.NodeBlock, NodeNet.NodeNet}
+use Rattle.node_defs.specs.{Items.own, Items.IsItemOf, Items.IsNodeBlock, Order.AreItems}
 use Rattle.node_defs.proofs.SeenLemmas.{item_named, item_of_signal, number, number_named, seen, seen_at, seen_value, seen_values}
 use Rattle.node_defs.proofs.GateLemmas.{gate_seen}
 

@@ -1,27 +1,13 @@
 -- Which items are those of a netlist: each by what it stands for, in no order of construction.
 use Rattle.std.specs.Prelude.{◌≡◌, ℕ, ◌+◌, ◌-◌, ◌<◌, ◌≤◌, nat_lt, Bool, ◌&&◌, if◌then◌else◌, List, [], ◌∷◌, length, Option, Some, None, slice_get, slice_index, slice_index_or}
-use Rattle.logic_four.specs.declared.V4.TheVariants.{Zero}
-use Rattle.logic_four.specs.declared.Kind.{Kind}
-use Rattle.logic_four.specs.Folds.{base_kind}
-use Rattle.net_defs.specs.declared.netlist.Netlist.{Netlist}
-use Rattle.net_defs.specs.declared.netlist.Signal.{Signal}
-use Rattle.net_defs.specs.declared.netlist.Block.{Block}
-use Rattle.net_defs.specs.declared.netlist.Driver.{Driver}
-use Rattle.net_defs.specs.declared.netlist.Driver.TheVariants as driver
-use Rattle.net_defs.specs.declared.timing.Timing.{Timing}
+use Rattle.logic_four.specs.{declared.V4.TheVariants.Zero, declared.Kind.Kind, Folds.base_kind}
+use Rattle.net_defs.specs.declared.{netlist.Netlist.Netlist, netlist.Signal.Signal, netlist.Block.Block, netlist.Driver.Driver, timing.Timing.Timing}
 use Rattle.net_defs.specs.Steps.{is_late}
-use Rattle.func_table.specs.declared.table.Table.{Table}
-use Rattle.func_table.specs.Entries.{IsTableOf}
-use Rattle.node_defs.specs.declared.groups.Group.{Group}
-use Rattle.node_defs.specs.declared.items.Tag.{Tag}
-use Rattle.node_defs.specs.declared.items.Tag.TheVariants.{This, Last}
-use Rattle.node_defs.specs.declared.items.Feed.{Feed}
-use Rattle.node_defs.specs.declared.items.Feed.TheVariants.{From, Fixed}
-use Rattle.node_defs.specs.declared.items.Feeds.{Feeds}
-use Rattle.node_defs.specs.declared.items.Item.{Item}
+use Rattle.net_defs.specs.declared.netlist.Driver.TheVariants as driver
+use Rattle.func_table.specs.{declared.table.Table.Table, Entries.IsTableOf}
 use Rattle.node_defs.specs.declared.items.Item.TheVariants.{Input, BlockBit, Node, Latch}
-use Rattle.node_defs.specs.declared.items.ItemName.{ItemName}
-use Rattle.node_defs.specs.declared.items.NodeBlock.{NodeBlock}
+use Rattle.node_defs.specs.declared.{groups.Group.Group, items.Tag.Tag, items.Tag.TheVariants.This, items.Tag.TheVariants.Last, items.Feed.Feed}
+use Rattle.node_defs.specs.declared.items.{Feed.TheVariants.From, Feed.TheVariants.Fixed, Feeds.Feeds, Item.Item, ItemName.ItemName, NodeBlock.NodeBlock}
 use Rattle.node_defs.specs.Groups.{group_at, helper_count}
 
 -- ---- names

@@ -1,19 +1,11 @@
 -- In which order the items of a netlist stand, and the whole list.
 use Rattle.std.specs.Prelude.{◌≡◌, ℕ, ◌+◌, ◌<◌, ◌≤◌, nat_lt, max, if◌then◌else◌, ◌⊎◌, ◌↔◌, List, length, Option, Some, None, slice_get, slice_index}
-use Rattle.net_defs.specs.declared.netlist.Netlist.{Netlist}
-use Rattle.net_defs.specs.declared.netlist.Block.{Block}
-use Rattle.net_defs.specs.declared.timing.Timing.{Timing}
+use Rattle.net_defs.specs.declared.{netlist.Netlist.Netlist, netlist.Block.Block, timing.Timing.Timing}
 use Rattle.func_table.specs.Shelf.{AreDifferent}
-use Rattle.node_defs.specs.declared.items.Tag.TheVariants.{This, Last}
-use Rattle.node_defs.specs.declared.items.Feed.{Feed}
-use Rattle.node_defs.specs.declared.items.Feed.TheVariants.{From, Fixed}
-use Rattle.node_defs.specs.declared.items.Feeds.{Feeds}
-use Rattle.node_defs.specs.declared.items.Item.{Item}
 use Rattle.node_defs.specs.declared.items.Item.TheVariants.{Input, BlockBit, Node, Latch}
-use Rattle.node_defs.specs.declared.items.ItemName.{ItemName}
-use Rattle.node_defs.specs.declared.items.NodeBlock.{NodeBlock}
-use Rattle.node_defs.specs.declared.items.NodeNet.{NodeNet}
 use Rattle.node_defs.specs.Items.{IsNamed, IsItem, AreNames, StandFor, IsNodeBlock}
+use Rattle.node_defs.specs.declared.items.{Tag.TheVariants.This, Tag.TheVariants.Last, Feed.Feed, Feed.TheVariants.From, Feed.TheVariants.Fixed, Feeds.Feeds}
+use Rattle.node_defs.specs.declared.items.{Item.Item, ItemName.ItemName, NodeBlock.NodeBlock, NodeNet.NodeNet}
 
 -- inputs come first, then memory outputs, then nodes and latches
 abbrev pub class_of : Item → ℕ

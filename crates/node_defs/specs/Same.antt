@@ -1,12 +1,8 @@
 -- A netlist and a timing have one list of items, but for the numbers of the tables.
 use Rattle.std.specs.Prelude.{◌≡◌, ◌↔◌, ℕ, List, length, Some, slice_get}
 use Rattle.logic_four.specs.declared.V4.{V4}
-use Rattle.func_table.specs.declared.table.Table.{Table}
-use Rattle.func_table.specs.Entries.{looked_up}
-use Rattle.node_defs.specs.declared.items.Feeds.{Feeds}
-use Rattle.node_defs.specs.declared.items.Item.{Item}
-use Rattle.node_defs.specs.declared.items.Item.TheVariants.{Node}
-use Rattle.node_defs.specs.declared.items.NodeNet.{NodeNet}
+use Rattle.func_table.specs.{declared.table.Table.Table, Entries.looked_up}
+use Rattle.node_defs.specs.declared.items.{Feeds.Feeds, Item.Item, Item.TheVariants.Node, NodeNet.NodeNet}
 
 -- the tables of these numbers, each in its own list, have the same entries
 abbrev pub IsSameTable : List Table → List Table → ℕ → ℕ → Type 0

@@ -1,12 +1,8 @@
 -- Which items an item takes, and at which turn.
 use Rattle.std.specs.Prelude.{◌≡◌, ◌⊎◌, ℕ, Contains}
-use Rattle.node_defs.specs.declared.items.Tag.TheVariants.{This, Last}
-use Rattle.node_defs.specs.declared.items.Feed.{Feed}
-use Rattle.node_defs.specs.declared.items.Feed.TheVariants.{From, Fixed}
-use Rattle.node_defs.specs.declared.items.Feeds.{Feeds}
-use Rattle.node_defs.specs.declared.items.Item.{Item}
 use Rattle.node_defs.specs.declared.items.Item.TheVariants.{Input, BlockBit, Node, Latch}
-use Rattle.node_defs.specs.declared.items.NodeBlock.{NodeBlock}
+use Rattle.node_defs.specs.declared.items.{Tag.TheVariants.This, Tag.TheVariants.Last, Feed.Feed, Feed.TheVariants.From, Feed.TheVariants.Fixed, Feeds.Feeds}
+use Rattle.node_defs.specs.declared.items.{Item.Item, NodeBlock.NodeBlock}
 
 -- the operand is item o
 abbrev pub FeedTakes : Feed → ℕ → Type 0

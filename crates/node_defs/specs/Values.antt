@@ -1,25 +1,14 @@
 -- What each item has at each turn: equations between whole states, one for each item, in no order. A
 -- state has a value for each item and the words of each memory.
 use Rattle.std.specs.Prelude.{◌≡◌, ℕ, ◌+◌, if◌then◌else◌, List, length, map, Option, Some, None, slice_get, replicate}
-use Rattle.logic_four.specs.declared.V4.{V4}
-use Rattle.logic_four.specs.declared.V4.TheVariants.{Undef}
-use Rattle.logic_four.specs.Values.{settled}
-use Rattle.logic_four.specs.Memory.{memory_act, MemoryAct, initial_words}
-use Rattle.net_defs.specs.declared.netlist.Netlist.{Netlist}
-use Rattle.net_defs.specs.declared.timing.Timing.{Timing}
-use Rattle.net_defs.specs.declared.stimulus.Stimulus.{Stimulus}
+use Rattle.logic_four.specs.{declared.V4.V4, declared.V4.TheVariants.Undef, Values.settled, Memory.memory_act, Memory.MemoryAct, Memory.initial_words}
 use Rattle.net_defs.specs.Time.{turn_count, is_edge, initial_value, value_at, input_at}
 use Rattle.net_defs.specs.Steps.{State, registered, values_of, words_of}
-use Rattle.net_defs.specs.Reference.{IsSimulation}
+use Rattle.net_defs.specs.{declared.netlist.Netlist.Netlist, declared.timing.Timing.Timing, declared.stimulus.Stimulus.Stimulus, Reference.IsSimulation}
 use Rattle.func_table.specs.Entries.{looked_up}
-use Rattle.node_defs.specs.declared.items.Tag.TheVariants.{This, Last}
-use Rattle.node_defs.specs.declared.items.Feed.{Feed}
-use Rattle.node_defs.specs.declared.items.Feed.TheVariants.{From, Fixed}
-use Rattle.node_defs.specs.declared.items.Item.{Item}
 use Rattle.node_defs.specs.declared.items.Item.TheVariants.{Input, BlockBit, Node, Latch}
-use Rattle.node_defs.specs.declared.items.NodeBlock.{NodeBlock}
-use Rattle.node_defs.specs.declared.items.NodeNet.{NodeNet}
-use Rattle.node_defs.specs.Items.{own, IsNamed}
+use Rattle.node_defs.specs.declared.items.{Tag.TheVariants.This, Tag.TheVariants.Last, Feed.Feed, Feed.TheVariants.From, Feed.TheVariants.Fixed, Item.Item}
+use Rattle.node_defs.specs.{declared.items.NodeBlock.NodeBlock, declared.items.NodeNet.NodeNet, Items.own, Items.IsNamed}
 
 -- what a memory does at an edge: it acts on what its operands had in the state before
 abbrev pub block_act : State → NodeBlock → List (List V4) → MemoryAct

@@ -2,9 +2,7 @@
 
 ghost use Rattle.std.specs.Prelude.{◌≡◌, ◌<◌, ◌≤◌, length};
 ghost use Rattle.limits.specs.declared.TheConstants.{MAX_GATE_OPERANDS};
-ghost use Rattle.node_defs.specs.Groups.{groups};
-ghost use Rattle.node_defs.specs.Groups.{group_at as group_in};
-ghost use Rattle.node_defs.specs.Groups.{helper_count as helpers_in};
+ghost use Rattle.node_defs.specs.Groups.{groups, group_at as group_in, helper_count as helpers_in};
 
 /// Up to four wires of a gate that stand next to one another: from wire `first` on, `size` of them.
 /// The wires of a gate of n operands are its operands, 0 to n - 1 from the left, and then its helpers,

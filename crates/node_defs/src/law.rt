@@ -1,20 +1,10 @@
 //! Laws of items: functions that do nothing, whose clauses hold of all netlists.
 
 ghost use Rattle.std.specs.Prelude.{◌≡◌, ◌<◌, ℕ, List as Items, Some, slice_get};
-ghost use Rattle.net_defs.specs.declared.netlist.Netlist.{Netlist};
-ghost use Rattle.net_defs.specs.declared.timing.Timing.{Timing};
-ghost use Rattle.net_defs.specs.declared.stimulus.Stimulus.{Stimulus};
-ghost use Rattle.net_defs.specs.Steps.{State};
+ghost use Rattle.net_defs.specs.{declared.netlist.Netlist.Netlist, declared.timing.Timing.Timing, declared.stimulus.Stimulus.Stimulus, Steps.State};
 ghost use Rattle.net_defs.specs.Valid.{IsValid};
-ghost use Rattle.node_defs.specs.declared.items.Tag.TheVariants.{This};
-ghost use Rattle.node_defs.specs.declared.items.Feed.TheVariants.{From};
-ghost use Rattle.node_defs.specs.declared.items.Feeds.{Feeds};
-ghost use Rattle.node_defs.specs.declared.items.Item.TheVariants.{Node};
-ghost use Rattle.node_defs.specs.declared.items.NodeNet.{NodeNet};
-ghost use Rattle.node_defs.specs.Items.{feed_at};
-ghost use Rattle.node_defs.specs.Order.{AreItems};
-ghost use Rattle.node_defs.specs.Same.{AreSameItems};
-ghost use Rattle.node_defs.specs.Values.{AreItemValues, AreReferenceValues, HaveOneRun};
+ghost use Rattle.node_defs.specs.declared.items.{Tag.TheVariants.This, Feed.TheVariants.From, Feeds.Feeds, Item.TheVariants.Node, NodeNet.NodeNet};
+ghost use Rattle.node_defs.specs.{Items.feed_at, Order.AreItems, Same.AreSameItems, Values.AreItemValues, Values.AreReferenceValues, Values.HaveOneRun};
 
 /// A law: an operand that is taken at this turn stands before the node that takes it. It does nothing.
 pub fn operands_are_earlier()

@@ -1,59 +1,33 @@
 -- The items of a netlist exist where there is an order: each step of their making, in lists of any
 -- length.
 use Rattle.std.proofs.Common.{◌≡◌, ◌∙◌, ◌⊎◌, inl, inr, ℕ, zero, suc, ◌+◌, ◌-◌, ◌<◌, ◌≤◌, ◌↔◌, nat_lt, Bool, true, false, List, [], ◌∷◌, ◌++◌, length, map, get_or, set, replicate, refl, sym, ap, subst, arith, add-one}
-use Rattle.std.specs.Prelude.{Option, Some, None, slice_get}
-use Rattle.std.specs.List.{All, range_with_len}
-use Rattle.std.specs.Ordering.{is_lt}
 use Rattle.std.proofs.lemmas.Bool.{cases_eq, cases_lt, lt-ltb, le-ltb}
-use Rattle.std.proofs.lemmas.Option.{slice_get_within}
-use Rattle.std.proofs.lemmas.List.{length-map}
-use Rattle.std.proofs.lemmas.List.Elements.{All-nil}
-use Rattle.std.proofs.lemmas.List.MinMax.{ranks_by}
-use Rattle.logic_four.specs.declared.V4.TheVariants.{Zero}
-use Rattle.logic_four.specs.declared.Kind.{Kind}
-use Rattle.logic_four.specs.Kinds.{AllowsOperands}
-use Rattle.net_defs.specs.declared.netlist.Netlist.{Netlist}
-use Rattle.net_defs.specs.declared.netlist.Signal.{Signal}
-use Rattle.net_defs.specs.declared.netlist.Block.{Block}
-use Rattle.net_defs.specs.declared.netlist.Driver.{Driver}
+use Rattle.std.proofs.lemmas.{Option.slice_get_within, List.length-map, List.Elements.All-nil, List.MinMax.ranks_by}
+use Rattle.std.specs.Prelude.{Option, Some, None, slice_get}
+use Rattle.std.specs.{List.All, List.range_with_len, Ordering.is_lt}
+use Rattle.logic_four.specs.{declared.V4.TheVariants.Zero, declared.Kind.Kind, Kinds.AllowsOperands}
+use Rattle.net_defs.specs.declared.{netlist.Netlist.Netlist, netlist.Signal.Signal, netlist.Block.Block, netlist.Driver.Driver, timing.Timing.Timing}
+use Rattle.net_defs.specs.{Steps.is_late, Loops.gate_operands, Loops.IsOrder, Valid.IsSignal, Valid.IsDrivable, Valid.IsValid}
 use Rattle.net_defs.specs.declared.netlist.Driver.TheVariants as driver
-use Rattle.net_defs.specs.declared.timing.Timing.{Timing}
-use Rattle.net_defs.specs.Steps.{is_late}
-use Rattle.net_defs.specs.Loops.{gate_operands, IsOrder}
-use Rattle.net_defs.specs.Valid.{IsSignal, IsDrivable, IsValid}
-use Rattle.func_table.specs.declared.table.Table.{Table}
-use Rattle.func_table.specs.Shelf.{AreDifferent}
+use Rattle.func_table.specs.{declared.table.Table.Table, Shelf.AreDifferent}
 use Rattle.list_laws.proofs.Members.{each, member_at, map_at, mapped_at}
-use Rattle.list_laws.proofs.Places.{one_there}
-use Rattle.list_laws.proofs.Ranges.{last_or}
+use Rattle.list_laws.proofs.{Places.one_there, Ranges.last_or}
 use Rattle.logic_four.proofs.lemmas.KindLemmas.{few_operands}
-use Rattle.node_defs.specs.declared.groups.Group.{Group}
-use Rattle.node_defs.specs.declared.items.Feed.{Feed}
-use Rattle.node_defs.specs.declared.items.Feed.TheVariants.{From, Fixed}
-use Rattle.node_defs.specs.declared.items.Feeds.{Feeds}
-use Rattle.node_defs.specs.declared.items.Item.{Item}
 use Rattle.node_defs.specs.declared.items.Item.TheVariants.{Input, BlockBit, Node, Latch}
-use Rattle.node_defs.specs.declared.items.NodeBlock.{NodeBlock}
-use Rattle.node_defs.specs.declared.items.NodeNet.{NodeNet}
-use Rattle.node_defs.specs.Groups.{group_at}
 use Rattle.node_defs.specs.Items.{own, IsNamed, wire_tag, StandFor, IsNodeBlock}
-use Rattle.node_defs.specs.Order.{AreItems}
-use Rattle.node_map.specs.declared.keys.Key.{Key}
-use Rattle.node_map.specs.declared.numbering.Numbering.{Numbering}
-use Rattle.node_map.specs.Words.{HasWords}
+use Rattle.node_defs.specs.declared.{groups.Group.Group, items.Feed.Feed, items.Feed.TheVariants.From, items.Feed.TheVariants.Fixed, items.Feeds.Feeds}
+use Rattle.node_defs.specs.{declared.items.Item.Item, declared.items.NodeBlock.NodeBlock, declared.items.NodeNet.NodeNet, Groups.group_at, Order.AreItems}
 use Rattle.node_map.specs.code.Wires.{operands_of, helpers_at, rank_at, AreOwnRanks}
 use Rattle.node_map.specs.code.Places.{start_of, keys_to, key_cmp, name_of, flat_in, AreKeyed, AreRight, AreFlat, IsNumbering}
-use Rattle.node_map.specs.code.Tables.{Keeps}
 use Rattle.node_map.specs.code.Nodes.{IsFeed, AreFeeds, IsNodeAt, node_kind}
 use Rattle.node_map.specs.code.Made.{driver_at, IsMadeItem, AreMade, AreNodeBlocks}
+use Rattle.node_map.specs.{declared.keys.Key.Key, declared.numbering.Numbering.Numbering, Words.HasWords, code.Tables.Keeps}
 use Rattle.node_map.proofs.RankLemmas.{OwnTo, own_begun, own_more, own_all}
-use Rattle.node_map.proofs.OrderLemmas.{key_total, made_keys, made_right}
 use Rattle.node_map.proofs.NumberLemmas.{NumbersTo, numbers_begun, numbers_more, numbers_all, are_flat, are_numbered, own_found, helper_found}
-use Rattle.node_map.proofs.MadeNodeLemmas.{four_feeds, group_shaped, made_node}
 use Rattle.node_map.proofs.ItemLemmas.{MadeTo, made_begun, made_more, made_all, driver_there, made_input, made_bit, made_latch, made_gate}
-use Rattle.node_map.proofs.MadeLemmas.{made_items, classes_rise}
-use Rattle.node_map.proofs.SortLemmas.{sorted_list}
-use Rattle.node_map.proofs.ShelfLemmas.{shelved}
+use Rattle.node_map.proofs.OrderLemmas.{key_total, made_keys, made_right}
+use Rattle.node_map.proofs.{MadeNodeLemmas.four_feeds, MadeNodeLemmas.group_shaped, MadeNodeLemmas.made_node, MadeLemmas.made_items, MadeLemmas.classes_rise}
+use Rattle.node_map.proofs.{SortLemmas.sorted_list, ShelfLemmas.shelved}
 
 -- ---- operands
 

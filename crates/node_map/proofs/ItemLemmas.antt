@@ -1,36 +1,21 @@
 -- The items as they are made, key by key.
 use Rattle.std.proofs.Common.{◌≡◌, ◌∙◌, inl, inr, ℕ, ◌+◌, ◌<◌, ◌≤◌, nat_lt, Bool, true, false, if◌then◌else◌, List, [], ◌∷◌, ◌++◌, length, get_or, refl, sym, ap, subst, arith}
-use Rattle.std.specs.Prelude.{Option, Some, None, slice_get}
-use Rattle.std.proofs.lemmas.Bool.{cases_lt, lt-ltb, le-ltb}
-use Rattle.std.proofs.lemmas.Option.{slice_get-get_or, slice_get_within, get_or_from_slice_get}
+use Rattle.std.proofs.lemmas.{Bool.cases_lt, Bool.lt-ltb, Bool.le-ltb, Option.slice_get-get_or, Option.slice_get_within, Option.get_or_from_slice_get}
 use Rattle.std.proofs.lemmas.List.{length_push, get_or_append_left, get_or_push}
+use Rattle.std.specs.Prelude.{Option, Some, None, slice_get}
 use Rattle.list_laws.proofs.Options.{one_some}
 use Rattle.logic_four.specs.declared.Kind.{Kind}
-use Rattle.net_defs.specs.declared.netlist.Netlist.{Netlist}
-use Rattle.net_defs.specs.declared.netlist.Signal.{Signal}
-use Rattle.net_defs.specs.declared.netlist.Block.{Block}
-use Rattle.net_defs.specs.declared.netlist.Driver.{Driver}
+use Rattle.net_defs.specs.declared.{netlist.Netlist.Netlist, netlist.Signal.Signal, netlist.Block.Block, netlist.Driver.Driver, timing.Timing.Timing}
+use Rattle.net_defs.specs.{Steps.is_late, Loops.gate_operands}
 use Rattle.net_defs.specs.declared.netlist.Driver.TheVariants as driver
-use Rattle.net_defs.specs.declared.timing.Timing.{Timing}
-use Rattle.net_defs.specs.Steps.{is_late}
-use Rattle.net_defs.specs.Loops.{gate_operands}
 use Rattle.func_table.specs.declared.table.Table.{Table}
-use Rattle.node_defs.specs.declared.groups.Group.{Group}
-use Rattle.node_defs.specs.declared.items.Feeds.{Feeds}
-use Rattle.node_defs.specs.declared.items.Item.{Item}
 use Rattle.node_defs.specs.declared.items.Item.TheVariants.{Input, BlockBit, Node, Latch}
-use Rattle.node_defs.specs.declared.items.ItemName.{ItemName}
-use Rattle.node_defs.specs.declared.items.NodeBlock.{NodeBlock}
-use Rattle.node_defs.specs.Groups.{group_at, helper_count}
 use Rattle.node_defs.specs.Items.{own, IsNamed, IsNode, IsGateItem, IsItemOf, IsItem, StandFor, IsNodeBlock}
-use Rattle.node_map.specs.declared.keys.Key.{Key}
-use Rattle.node_map.specs.code.Wires.{operands_of, helpers_at}
-use Rattle.node_map.specs.code.Places.{name_at, name_of}
-use Rattle.node_map.specs.code.Tables.{Keeps}
-use Rattle.node_map.specs.code.Nodes.{IsNodeAt, node_kind}
-use Rattle.node_map.specs.code.Made.{driver_at, IsMadeItem, AreMade}
-use Rattle.node_map.proofs.TableLemmas.{get_front, get_last}
-use Rattle.node_map.proofs.lemmas.ShapeLemmas.{no_groups}
+use Rattle.node_defs.specs.declared.{groups.Group.Group, items.Feeds.Feeds, items.Item.Item, items.ItemName.ItemName, items.NodeBlock.NodeBlock}
+use Rattle.node_defs.specs.Groups.{group_at, helper_count}
+use Rattle.node_map.specs.{declared.keys.Key.Key, code.Wires.operands_of, code.Wires.helpers_at, code.Places.name_at, code.Places.name_of, code.Tables.Keeps}
+use Rattle.node_map.specs.code.{Nodes.IsNodeAt, Nodes.node_kind, Made.driver_at, Made.IsMadeItem, Made.AreMade}
+use Rattle.node_map.proofs.{TableLemmas.get_front, TableLemmas.get_last, lemmas.ShapeLemmas.no_groups}
 
 -- ---- numbers of signals
 

@@ -1,15 +1,12 @@
 -- Where the keys of the items stand before they are sorted.
 use Rattle.std.proofs.Common.{◌≡◌, ◌∙◌, ℕ, zero, suc, ◌+◌, ◌-◌, ◌*◌, ◌<◌, ◌≤◌, List, [], ◌∷◌, ◌++◌, length, map, get_or, inl, inr, refl, sym, ap, arith, append_assoc, add-one}
-use Rattle.std.specs.List.{range_with_len}
-use Rattle.std.proofs.lemmas.Bool.{cases_lt}
-use Rattle.std.proofs.lemmas.List.{length-append, get_or_append_left, get_or-append_right}
+use Rattle.std.proofs.lemmas.{Bool.cases_lt, List.length-append, List.get_or_append_left, List.get_or-append_right}
 use Rattle.std.proofs.lemmas.List.FromFn.{length-map-range_with_len, get_or-map-range_with_len, map-range_with_len_more}
+use Rattle.std.specs.List.{range_with_len}
 use Rattle.list_laws.proofs.Ranges.{last_or}
-use Rattle.net_defs.specs.declared.netlist.Netlist.{Netlist}
-use Rattle.net_defs.specs.declared.timing.Timing.{Timing}
-use Rattle.node_map.specs.declared.keys.Key.{Key}
-use Rattle.node_map.specs.code.Wires.{operands_of, helpers_at}
+use Rattle.net_defs.specs.declared.{netlist.Netlist.Netlist, timing.Timing.Timing}
 use Rattle.node_map.specs.code.Places.{start_of, key_at, keys_of, keys_to}
+use Rattle.node_map.specs.{declared.keys.Key.Key, code.Wires.operands_of, code.Wires.helpers_at}
 use Rattle.node_map.proofs.lemmas.ShapeLemmas.{few_groups}
 
 -- what place of what signal stands here

@@ -1,34 +1,21 @@
 -- What was made from the keys in order are the items of the netlist.
 use Rattle.std.proofs.Common.{◌≡◌, ◌∙◌, inl, inr, ℕ, ◌+◌, ◌-◌, ◌<◌, ◌≤◌, ◌↔◌, nat_lt, max, Bool, true, false, ◌&&◌, if◌then◌else◌, List, [], length, map, get_or, refl, sym, ap, subst, arith}
-use Rattle.std.specs.Prelude.{Option, Some, None, slice_get}
-use Rattle.std.proofs.lemmas.Bool.{cases_lt, lt-ltb, le-ltb}
-use Rattle.std.proofs.lemmas.Bool.Decides.{eqb_tells}
 use Rattle.std.proofs.lemmas.Option.{slice_get-get_or, slice_get_within, slice_get-map, get_or_from_slice_get}
-use Rattle.std.proofs.lemmas.List.{length-map, get_or-map}
-use Rattle.list_laws.proofs.Members.{mapped_at}
-use Rattle.list_laws.proofs.Options.{one_some}
+use Rattle.std.proofs.lemmas.{Bool.cases_lt, Bool.lt-ltb, Bool.le-ltb, Bool.Decides.eqb_tells, List.length-map, List.get_or-map}
+use Rattle.std.specs.Prelude.{Option, Some, None, slice_get}
+use Rattle.list_laws.proofs.{Members.mapped_at, Options.one_some}
 use Rattle.logic_four.specs.declared.Kind.{Kind}
-use Rattle.net_defs.specs.declared.netlist.Netlist.{Netlist}
-use Rattle.net_defs.specs.declared.netlist.Signal.{Signal}
-use Rattle.net_defs.specs.declared.netlist.Driver.{Driver}
+use Rattle.net_defs.specs.declared.{netlist.Netlist.Netlist, netlist.Signal.Signal, netlist.Driver.Driver, timing.Timing.Timing}
+use Rattle.net_defs.specs.{Steps.is_late, Loops.gate_operands}
 use Rattle.net_defs.specs.declared.netlist.Driver.TheVariants as driver
-use Rattle.net_defs.specs.declared.timing.Timing.{Timing}
-use Rattle.net_defs.specs.Steps.{is_late}
-use Rattle.net_defs.specs.Loops.{gate_operands}
-use Rattle.func_table.specs.declared.table.Table.{Table}
-use Rattle.func_table.specs.Shelf.{AreDifferent}
-use Rattle.node_defs.specs.declared.items.Tag.TheVariants.{This, Last}
-use Rattle.node_defs.specs.declared.items.Feed.TheVariants.{From}
-use Rattle.node_defs.specs.declared.items.Item.{Item}
-use Rattle.node_defs.specs.declared.items.ItemName.{ItemName}
-use Rattle.node_defs.specs.declared.items.NodeBlock.{NodeBlock}
-use Rattle.node_defs.specs.Groups.{groups, group_at, helper_count}
+use Rattle.func_table.specs.{declared.table.Table.Table, Shelf.AreDifferent}
 use Rattle.node_defs.specs.Items.{own, IsNamed, wire_name, wire_tag, feed_at, IsNode, IsGateItem, IsItemOf, IsItem, helpers_of, IsAmong, StandFor}
 use Rattle.node_defs.specs.Order.{class_of, rank_after_feed, rank_of, key_of, HelperBefore, Before, AreItems}
-use Rattle.node_map.specs.declared.keys.Key.{Key}
+use Rattle.node_defs.specs.declared.items.{Tag.TheVariants.This, Tag.TheVariants.Last, Feed.TheVariants.From, Item.Item, ItemName.ItemName, NodeBlock.NodeBlock}
+use Rattle.node_defs.specs.Groups.{groups, group_at, helper_count}
 use Rattle.node_map.specs.code.Wires.{operands_of, helpers_at, class_of_driver, class_at, past_of, most_of, pasts_to, pasts_of, rank_at, AreOwnRanks}
 use Rattle.node_map.specs.code.Places.{name_at, name_of, IsKeyBefore, AreKeyed, AreRight}
-use Rattle.node_map.specs.code.Made.{AreMade, AreNodeBlocks}
+use Rattle.node_map.specs.{declared.keys.Key.Key, code.Made.AreMade, code.Made.AreNodeBlocks}
 use Rattle.node_map.proofs.lemmas.ShapeLemmas.{group_within, group_few, some_groups, no_groups}
 use Rattle.node_map.proofs.PastLemmas.{added, added_is, past_operand, past_helper, pasts_before, most_same}
 use Rattle.node_map.proofs.RankLemmas.{rank_none}

@@ -1,21 +1,13 @@
 -- The nodes of a gate as they are made.
 use Rattle.std.proofs.Common.{◌≡◌, ◌⊎◌, inl, inr, IsTrue, ℕ, zero, suc, ◌+◌, ◌-◌, ◌<◌, ◌≤◌, nat_lt, Bool, true, false, if◌then◌else◌, List, length, refl, sym, ap, arith}
-use Rattle.std.proofs.lemmas.Bool.{cases_lt, le-leb, le-ltb}
-use Rattle.std.proofs.lemmas.Bool.Decides.{nat_tests}
-use Rattle.logic_four.specs.declared.V4.TheVariants.{Zero}
-use Rattle.logic_four.specs.declared.Kind.{Kind}
-use Rattle.logic_four.specs.Kinds.{AllowsOperands}
-use Rattle.logic_four.specs.Folds.{takes_many, base_kind}
+use Rattle.std.proofs.lemmas.Bool.{cases_lt, le-leb, le-ltb, Decides.nat_tests}
+use Rattle.logic_four.specs.{declared.V4.TheVariants.Zero, declared.Kind.Kind, Kinds.AllowsOperands, Folds.takes_many, Folds.base_kind}
 use Rattle.logic_four.proofs.lemmas.KindLemmas.{some_operands}
 use Rattle.func_table.specs.declared.table.Table.{Table}
-use Rattle.node_defs.specs.declared.groups.Group.{Group}
-use Rattle.node_defs.specs.declared.items.Feed.TheVariants.{Fixed, From}
-use Rattle.node_defs.specs.declared.items.Feeds.{Feeds}
-use Rattle.node_defs.specs.declared.items.Item.TheVariants.{Node}
-use Rattle.node_defs.specs.declared.items.ItemName.{ItemName}
-use Rattle.node_defs.specs.declared.items.Tag.TheVariants.{This}
-use Rattle.node_defs.specs.Groups.{group_at, helper_count}
 use Rattle.node_defs.specs.Items.{IsNamed, feed_at, helper_of, wire_tag}
+use Rattle.node_defs.specs.declared.{groups.Group.Group, items.Feed.TheVariants.Fixed, items.Feed.TheVariants.From, items.Feeds.Feeds}
+use Rattle.node_defs.specs.declared.items.{Item.TheVariants.Node, ItemName.ItemName, Tag.TheVariants.This}
+use Rattle.node_defs.specs.Groups.{group_at, helper_count}
 use Rattle.node_map.specs.code.Nodes.{IsFeed, AreFeeds, IsNodeAt, node_kind}
 use Rattle.node_map.specs.code.Tables.{AddsOnly, HasTable}
 use Rattle.node_map.proofs.lemmas.ShapeLemmas.{IsShaped, shaped, some_groups, narrow_groups}

@@ -1,19 +1,15 @@
 -- The numbers of items by signal and place.
 use Rattle.std.proofs.Common.{◌≡◌, ◌∙◌, ℕ, suc, ◌+◌, ◌-◌, ◌<◌, ◌≤◌, if◌then◌else◌, List, length, map, get_or, set, replicate, inl, inr, sym, ap, arith}
+use Rattle.std.proofs.lemmas.List.{length-set, length-replicate, get_or-set_same, get_or-set_other}
+use Rattle.std.proofs.lemmas.{Bool.cases_lt, Bool.lt-ltb, Bool.le-ltb, Option.slice_get_within, Option.slice_get-map}
+use Rattle.std.proofs.lemmas.List.FromFn.{length-map-range_with_len, get_or-map-range_with_len}
 use Rattle.std.specs.Prelude.{Option, Some, None, slice_get}
 use Rattle.std.specs.List.{range_with_len}
-use Rattle.std.proofs.lemmas.Bool.{cases_lt, lt-ltb, le-ltb}
-use Rattle.std.proofs.lemmas.Option.{slice_get_within, slice_get-map}
-use Rattle.std.proofs.lemmas.List.{length-set, length-replicate, get_or-set_same, get_or-set_other}
-use Rattle.std.proofs.lemmas.List.FromFn.{length-map-range_with_len, get_or-map-range_with_len}
 use Rattle.list_laws.proofs.Options.{one_some}
 use Rattle.net_defs.specs.declared.netlist.Netlist.{Netlist}
-use Rattle.node_defs.specs.declared.items.ItemName.{ItemName}
-use Rattle.node_defs.specs.Items.{own, helper_of, IsNamed}
-use Rattle.node_map.specs.declared.keys.Key.{Key}
-use Rattle.node_map.specs.declared.numbering.Numbering.{Numbering}
-use Rattle.node_map.specs.code.Wires.{helpers_at}
+use Rattle.node_defs.specs.{declared.items.ItemName.ItemName, Items.own, Items.helper_of, Items.IsNamed}
 use Rattle.node_map.specs.code.Places.{start_of, name_at, name_of, flat_in, AreKeyed, AreFlat, AreNumbers, IsNumbering}
+use Rattle.node_map.specs.{declared.keys.Key.Key, declared.numbering.Numbering.Numbering, code.Wires.helpers_at}
 use Rattle.node_map.proofs.KeyLemmas.{place_within}
 
 -- the numbers of the first so many keys

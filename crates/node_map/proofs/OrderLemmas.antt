@@ -1,24 +1,15 @@
 -- The keys of the items in order.
 use Rattle.std.proofs.Common.{◌≡◌, ◌∙◌, ◌⊎◌, ℕ, ◌+◌, ◌==◌, ◌<◌, ◌≤◌, Bool, false, List, length, get_or, inl, inr, refl, sym, ap, subst, arith}
-use Rattle.std.specs.Prelude.{Some, slice_get}
-use Rattle.std.specs.List.{Contains, IsDistinct}
-use Rattle.std.specs.List.Sorted.{IsPermutation, IsSorted}
-use Rattle.std.specs.declared.cmp.Ordering.{Ordering}
-use Rattle.std.specs.Ordering.{is_lt, nat_cmp, ordering_then}
-use Rattle.std.proofs.lemmas.Bool.{cases_lt, lt-ltb, le-ltb}
-use Rattle.std.proofs.lemmas.Bool.Decides.{eqb_tells}
-use Rattle.std.proofs.lemmas.Option.{slice_get-get_or, slice_get_within, get_or_from_slice_get}
-use Rattle.std.proofs.lemmas.List.Elements.{Contains-get_or}
 use Rattle.std.proofs.lemmas.List.Sorted.{length_permutation, Contains-permutation, IsPermutation-sym, sorted_far}
-use Rattle.std.proofs.lemmas.List.MinMax.{ranks_by}
-use Rattle.std.proofs.lemmas.Map.Keys.{IsDistinct-IsPermutation, IsDistinct-from_apart, apart_from_distinct}
+use Rattle.std.proofs.lemmas.Bool.{cases_lt, lt-ltb, le-ltb, Decides.eqb_tells}
+use Rattle.std.proofs.lemmas.{Option.slice_get-get_or, Option.slice_get_within, Option.get_or_from_slice_get, List.Elements.Contains-get_or}
+use Rattle.std.proofs.lemmas.{List.MinMax.ranks_by, Map.Keys.IsDistinct-IsPermutation, Map.Keys.IsDistinct-from_apart, Map.Keys.apart_from_distinct}
 use Rattle.std.proofs.lemmas.Cmp.{nat_cmp_total, on_total, then_total}
-use Rattle.std.specs.Cmp.{IsTotalOrder}
-use Rattle.net_defs.specs.declared.netlist.Netlist.{Netlist}
-use Rattle.net_defs.specs.declared.timing.Timing.{Timing}
-use Rattle.node_map.specs.declared.keys.Key.{Key}
-use Rattle.node_map.specs.code.Wires.{operands_of, helpers_at}
+use Rattle.std.specs.{Prelude.Some, Prelude.slice_get, List.Contains, List.IsDistinct, List.Sorted.IsPermutation, List.Sorted.IsSorted}
+use Rattle.std.specs.{declared.cmp.Ordering.Ordering, Ordering.is_lt, Ordering.nat_cmp, Ordering.ordering_then, Cmp.IsTotalOrder}
+use Rattle.net_defs.specs.declared.{netlist.Netlist.Netlist, timing.Timing.Timing}
 use Rattle.node_map.specs.code.Places.{start_of, key_at, keys_to, key_cmp, IsKeyBefore, AreKeyed, AreRight}
+use Rattle.node_map.specs.{declared.keys.Key.Key, code.Wires.operands_of, code.Wires.helpers_at}
 use Rattle.node_map.proofs.KeyLemmas.{IsPlaced, placed, place_within, start_low, keys_length, key_placed}
 
 -- ---- keys that are not after one another

@@ -1,7 +1,7 @@
 -- The least ranks of what takes the wires of a gate.
 use Rattle.std.proofs.Common.{◌≡◌, ◌∙◌, ℕ, zero, suc, ◌+◌, ◌<◌, ◌≤◌, max, List, [], ◌∷◌, ◌++◌, length, map, take, get_or, inl, inr, refl, sym, ap, arith}
-use Rattle.std.proofs.lemmas.Bool.{cases_lt}
 use Rattle.std.proofs.lemmas.List.{take_all, map_more, length_push, get_or_push, get_or_append_left, get_or_past}
+use Rattle.std.proofs.lemmas.Bool.{cases_lt}
 use Rattle.node_defs.specs.Groups.{group_at}
 use Rattle.node_map.specs.code.Wires.{most_of, pasts_to}
 

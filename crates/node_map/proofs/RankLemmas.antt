@@ -1,28 +1,18 @@
 -- The ranks of the own nodes along an order.
 use Rattle.std.proofs.Common.{◌≡◌, ◌≢◌, ◌∙◌, ℕ, zero, suc, ◌+◌, ◌-◌, ◌*◌, ◌^◌, ◌==◌, ◌<◌, ◌≤◌, Bool, true, false, if◌then◌else◌, List, [], ◌∷◌, length, map, replicate, get_or, set, inl, inr, refl, sym, ap, subst, arith, Option, Some, None}
-use Rattle.std.specs.List.{Contains, slice_get}
-use Rattle.std.proofs.lemmas.Bool.{cases_lt, eqb-true}
-use Rattle.std.proofs.lemmas.Bool.Decides.{eqb_tells, Decides-eqb}
-use Rattle.std.proofs.lemmas.Map.Made.{IsDistinct-from_AllPairs}
-use Rattle.std.proofs.lemmas.Map.Steps.{length-le_from_distinct_below}
-use Rattle.std.proofs.lemmas.Map.Views.{Contains-from_any}
 use Rattle.std.proofs.lemmas.List.{get_or_past, length-replicate, length-set, length-map, get_or-map, get_or-set_same, get_or-set_other}
-use Rattle.net_defs.specs.declared.netlist.Netlist.{Netlist}
-use Rattle.net_defs.specs.declared.netlist.Signal.{Signal}
-use Rattle.net_defs.specs.declared.netlist.Driver.{Driver}
+use Rattle.std.proofs.lemmas.{Bool.cases_lt, Bool.eqb-true, Bool.Decides.eqb_tells, Bool.Decides.Decides-eqb, Map.Made.IsDistinct-from_AllPairs}
+use Rattle.std.proofs.lemmas.Map.{Steps.length-le_from_distinct_below, Views.Contains-from_any}
+use Rattle.std.specs.List.{Contains, slice_get}
 use Rattle.net_defs.specs.declared.netlist.Driver.TheVariants.{Input, Gate, Dff, BlockBit}
-use Rattle.net_defs.specs.declared.timing.Timing.{Timing}
-use Rattle.net_defs.specs.Steps.{is_late}
 use Rattle.net_defs.specs.Loops.{is_gate, is_gate_driver, gate_operands, IsGate, waits_for, IsOrder}
-use Rattle.list_laws.proofs.Differ.{differ_at}
-use Rattle.list_laws.proofs.Places.{place_of, place_below}
-use Rattle.list_laws.proofs.Ranges.{last_or, replicate_read}
-use Rattle.rank_find.proofs.WalkLemmas.{is_gate_or}
-use Rattle.rank_find.proofs.lemmas.NumberLemmas.{gate_within}
+use Rattle.net_defs.specs.declared.{netlist.Netlist.Netlist, netlist.Signal.Signal, netlist.Driver.Driver, timing.Timing.Timing}
+use Rattle.net_defs.specs.Steps.{is_late}
+use Rattle.list_laws.proofs.{Differ.differ_at, Places.place_of, Places.place_below, Ranges.last_or, Ranges.replicate_read}
+use Rattle.rank_find.proofs.{WalkLemmas.is_gate_or, lemmas.NumberLemmas.gate_within}
 use Rattle.node_defs.specs.Groups.{groups}
 use Rattle.node_map.specs.code.Wires.{operands_of, helpers_at, class_at, past_of, pasts_to, rank_at, AreOwnRanks}
-use Rattle.node_map.proofs.lemmas.ShapeLemmas.{few_groups, no_groups}
-use Rattle.node_map.proofs.PastLemmas.{pasts_le}
+use Rattle.node_map.proofs.{lemmas.ShapeLemmas.few_groups, lemmas.ShapeLemmas.no_groups, PastLemmas.pasts_le}
 
 -- ---- bounds
 

@@ -1,27 +1,17 @@
 -- There is a table of each kind, and a shelf that has it.
 use Rattle.std.proofs.Common.{◌≡◌, ◌≢◌, ◌∙◌, ◌⊎◌, inl, inr, ℕ, zero, suc, ◌+◌, ◌-◌, ◌*◌, ◌/◌, ◌%◌, ◌^◌, ◌<◌, ◌≤◌, List, [], ◌∷◌, ◌++◌, length, get_or, set, replicate, refl, sym, ap, subst, arith, mul_comm}
-use Rattle.std.specs.Prelude.{Some, slice_get}
-use Rattle.std.specs.List.{All}
-use Rattle.std.proofs.lemmas.Bool.{cases_eq}
-use Rattle.std.proofs.lemmas.List.{length-set, length-replicate}
 use Rattle.std.proofs.lemmas.List.Elements.{All-nil, All-cons, All-push, All-set, All-replicate}
 use Rattle.std.proofs.lemmas.Nat.{shr_below, mul-add-lt, mod_below, pow_pos, pow-add}
-use Rattle.std.proofs.lemmas.List.Quantifiers.{all_pairs_push}
-use Rattle.logic_four.specs.declared.V4.{V4}
-use Rattle.logic_four.specs.declared.Kind.{Kind}
-use Rattle.logic_four.specs.Values.{code_of, value_of}
-use Rattle.logic_four.specs.Packed.{packed_value}
-use Rattle.logic_four.proofs.lemmas.CodeLemmas.{value_of-code_of, code_of_small}
+use Rattle.std.proofs.lemmas.{Bool.cases_eq, List.length-set, List.length-replicate, List.Quantifiers.all_pairs_push}
+use Rattle.std.specs.{Prelude.Some, Prelude.slice_get, List.All}
+use Rattle.logic_four.specs.{declared.V4.V4, declared.Kind.Kind, Values.code_of, Values.value_of, Packed.packed_value}
 use Rattle.logic_four.proofs.lemmas.PackedLemmas.{code_in-replaced_same, code_in-replaced_other, value-set_same, value-set_other}
-use Rattle.func_table.specs.declared.table.Table.{Table}
+use Rattle.logic_four.proofs.lemmas.CodeLemmas.{value_of-code_of, code_of_small}
 use Rattle.func_table.specs.Entries.{entry_of, entry_for, place_of, AreAlike, AreOther, IsTableOf}
-use Rattle.func_table.specs.code.Entries.{answer_at}
-use Rattle.func_table.specs.Shelf.{AreDifferent, IsNumbered}
+use Rattle.func_table.specs.{declared.table.Table.Table, code.Entries.answer_at, Shelf.AreDifferent, Shelf.IsNumbered}
 use Rattle.func_table.proofs.EntryLemmas.{entries_more, entries_are_answers}
-use Rattle.list_laws.proofs.Places.{seam_at}
-use Rattle.list_laws.proofs.Ranges.{last_or}
-use Rattle.node_map.specs.Words.{HasWords}
-use Rattle.node_map.specs.code.Tables.{Keeps, AddsOnly, HasTable}
+use Rattle.list_laws.proofs.{Places.seam_at, Ranges.last_or}
+use Rattle.node_map.specs.{Words.HasWords, code.Tables.Keeps, code.Tables.AddsOnly, code.Tables.HasTable}
 use Rattle.node_map.proofs.TableLemmas.{numbered_keeps, numbered_adds}
 
 -- ---- tables

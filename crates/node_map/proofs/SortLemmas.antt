@@ -1,8 +1,7 @@
 -- Each list has a sorted order, by insertion.
 use Rattle.std.proofs.Common.{◌≡◌, zero, suc, Bool, true, false, List, [], ◌∷◌, refl, arith, add-one}
-use Rattle.std.specs.List.Sorted.{IsPermutation, IsSortedBy}
-use Rattle.std.specs.Cmp.{IsStrictWeakOrder}
 use Rattle.std.proofs.lemmas.List.Sorted.{IsPermutation-refl, IsPermutation-cons, IsPermutation-trans, IsPermutation-middle, IsPermutation-sym}
+use Rattle.std.specs.{List.Sorted.IsPermutation, List.Sorted.IsSortedBy, Cmp.IsStrictWeakOrder}
 
 module _ {X : Type 0} (less : X → X → Bool) (order : IsStrictWeakOrder less) where
   -- no first element is less than this

@@ -1,10 +1,9 @@
 -- Tables that keep their numbers while more are made.
 use Rattle.std.proofs.Common.{◌≡◌, ◌∙◌, ℕ, ◌<◌, ◌≤◌, inl, inr, List, [], ◌∷◌, ◌++◌, length, sym, ap, arith}
-use Rattle.std.specs.Prelude.{Some, slice_get}
 use Rattle.std.proofs.lemmas.Option.{slice_get-get_or, slice_get_within, get_or_from_slice_get}
 use Rattle.std.proofs.lemmas.List.{length_push, get_or_append_left, get_or_push}
-use Rattle.func_table.specs.declared.table.Table.{Table}
-use Rattle.func_table.specs.Shelf.{IsNumbered}
+use Rattle.std.specs.Prelude.{Some, slice_get}
+use Rattle.func_table.specs.{declared.table.Table.Table, Shelf.IsNumbered}
 use Rattle.node_map.specs.code.Tables.{Keeps, AddsOnly}
 
 pub get_front : {X : Type 0} (xs : List X) (y x : X) (i : ℕ) → slice_get xs i ≡ Some x → slice_get (xs ++ y ∷ []) i ≡ Some x

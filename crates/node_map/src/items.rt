@@ -4,10 +4,8 @@ ghost use Rattle.std.specs.Prelude.{◌≡◌, ◌+◌, ◌^◌, ◌<◌, ◌≤
 ghost use Rattle.func_table.specs.Shelf.{AreDifferent};
 ghost use Rattle.net_defs.specs.Valid.{IsValid, IsValidTiming, IsSignal};
 ghost use Rattle.node_defs.specs.Items.{own, IsNamed, StandFor, IsNodeBlock};
-ghost use Rattle.node_map.specs.code.Wires.{helpers_at};
-ghost use Rattle.node_map.specs.code.Places.{AreKeyed, IsNumbering};
-ghost use Rattle.node_map.specs.code.Tables.{Keeps, AreMadeIn};
 ghost use Rattle.node_map.specs.code.Made.{driver_at, IsMadeItem, AreMade, AreNodeBlocks};
+ghost use Rattle.node_map.specs.code.{Wires.helpers_at, Places.AreKeyed, Places.IsNumbering, Tables.Keeps, Tables.AreMadeIn};
 
 use crate::keys::Key;
 use crate::nodes::node;

@@ -1,11 +1,9 @@
 //! Keys of items, in whose order they stand.
 
 ghost use Rattle.std.specs.Prelude.{◌≡◌, ◌+◌, ◌-◌, ◌^◌, ◌<◌, ◌≤◌, ◌++◌, ℕ, [], length, map, slice_index, OnOk, IfOk};
+ghost use Rattle.std.specs.List.{range_with_len, Sorted.IsPermutation, Sorted.IsSorted};
 ghost use Rattle.limits.specs.declared.TheConstants.{MAX_SIGNALS, MAX_GATE_OPERANDS};
-ghost use Rattle.std.specs.List.{range_with_len};
-ghost use Rattle.std.specs.List.Sorted.{IsPermutation, IsSorted};
-ghost use Rattle.net_defs.specs.Steps.{is_late};
-ghost use Rattle.net_defs.specs.Valid.{IsValidTiming};
+ghost use Rattle.net_defs.specs.{Steps.is_late, Valid.IsValidTiming};
 ghost use Rattle.node_map.specs.code.Wires.{operands_of, helpers_at, class_at, pasts_of, AreOwnRanks};
 ghost use Rattle.node_map.specs.code.Places.{key_at, keys_of, keys_to, key_cmp, key_from, AreKeyed, AreRight};
 

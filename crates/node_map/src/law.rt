@@ -1,12 +1,8 @@
 //! A law of items: a function that does nothing, whose clause holds of all netlists.
 
 ghost use Rattle.std.specs.Prelude.{ℕ, All, List as Items};
-ghost use Rattle.net_defs.specs.declared.netlist.Netlist.{Netlist};
-ghost use Rattle.net_defs.specs.declared.timing.Timing.{Timing};
-ghost use Rattle.net_defs.specs.Valid.{IsValid};
-ghost use Rattle.net_defs.specs.Loops.{IsOrder};
-ghost use Rattle.node_defs.specs.declared.items.NodeNet.{NodeNet};
-ghost use Rattle.node_defs.specs.Order.{AreItems};
+ghost use Rattle.net_defs.specs.{declared.netlist.Netlist.Netlist, declared.timing.Timing.Timing, Valid.IsValid, Loops.IsOrder};
+ghost use Rattle.node_defs.specs.{declared.items.NodeNet.NodeNet, Order.AreItems};
 ghost use Rattle.node_map.specs.Words.{HasWords};
 
 /// A law: a valid netlist whose gates have an order has items, with tables of eight words each. It does nothing.

@@ -1,14 +1,9 @@
 //! From a netlist to its items.
 
 ghost use Rattle.std.specs.Prelude.{ℕ, List as Items, IfOk};
-ghost use Rattle.net_defs.specs.declared.stimulus.Stimulus.{Stimulus};
-ghost use Rattle.net_defs.specs.Steps.{State};
-ghost use Rattle.net_defs.specs.Valid.{IsValid, IsValidTiming};
-ghost use Rattle.net_defs.specs.Loops.{AreRanks, IsOrder};
-ghost use Rattle.node_defs.specs.Order.{AreItems};
-ghost use Rattle.node_defs.specs.Values.{AreItemValues, AreReferenceValues};
-ghost use Rattle.node_map.specs.code.Places.{AreKeyed, AreRight};
-ghost use Rattle.node_map.specs.code.Wires.{AreOwnRanks};
+ghost use Rattle.net_defs.specs.{declared.stimulus.Stimulus.Stimulus, Steps.State, Valid.IsValid, Valid.IsValidTiming, Loops.AreRanks, Loops.IsOrder};
+ghost use Rattle.node_defs.specs.{Order.AreItems, Values.AreItemValues, Values.AreReferenceValues};
+ghost use Rattle.node_map.specs.code.{Places.AreKeyed, Places.AreRight, Wires.AreOwnRanks};
 
 use crate::items::{find_references, first_node, make_items};
 use crate::keys::{Key, sorted_keys};

@@ -2,15 +2,11 @@
 
 ghost use Rattle.std.specs.Prelude.{◌≡◌, ◌+◌, ◌^◌, ◌<◌, ◌≤◌, ℕ, length, All, Some, slice_get, OnOk, IfOk};
 ghost use Rattle.limits.specs.declared.TheConstants.{MAX_GATE_OPERANDS};
-ghost use Rattle.logic_four.specs.declared.V4.TheVariants.{Zero};
-ghost use Rattle.logic_four.specs.Kinds.{AllowsOperands};
-ghost use Rattle.net_defs.specs.Valid.{IsSignal};
-ghost use Rattle.net_defs.specs.Steps.{is_late};
+ghost use Rattle.logic_four.specs.{declared.V4.TheVariants.Zero, Kinds.AllowsOperands};
+ghost use Rattle.net_defs.specs.{Valid.IsSignal, Steps.is_late};
 ghost use Rattle.node_defs.specs.declared.items.Feed.TheVariants.{Fixed};
-ghost use Rattle.node_map.specs.code.Wires.{operands_of, helpers_at};
-ghost use Rattle.node_map.specs.code.Places.{IsNumbering};
 ghost use Rattle.node_map.specs.code.Nodes.{IsFeed, AreFeeds, IsNodeAt, node_kind};
-ghost use Rattle.node_map.specs.code.Tables.{Keeps, AddsOnly, AreMadeIn};
+ghost use Rattle.node_map.specs.code.{Wires.operands_of, Wires.helpers_at, Places.IsNumbering, Tables.Keeps, Tables.AddsOnly, Tables.AreMadeIn};
 
 use crate::numbering::Numbering;
 use crate::palette::Palette;

@@ -1,12 +1,12 @@
 //! The numbers of items by what they stand for.
 
 ghost use Rattle.std.specs.Prelude.{◌≡◌, ◌+◌, ◌^◌, ◌<◌, ◌≤◌, ℕ, [], length, map, replicate, slice_index, OnOk, IfOk};
-ghost use Rattle.limits.specs.declared.TheConstants.{MAX_SIGNALS, MAX_GATE_OPERANDS};
 ghost use Rattle.std.specs.List.{range_with_len};
+ghost use Rattle.limits.specs.declared.TheConstants.{MAX_SIGNALS, MAX_GATE_OPERANDS};
 ghost use Rattle.net_defs.specs.declared.netlist.Netlist.{Netlist as Net};
 ghost use Rattle.node_defs.specs.Items.{own, helper_of, IsNamed};
-ghost use Rattle.node_map.specs.code.Wires.{operands_of, helpers_at};
 ghost use Rattle.node_map.specs.code.Places.{start_of, name_of, flat_in, AreKeyed, AreFlat, AreNumbers, IsNumbering};
+ghost use Rattle.node_map.specs.code.Wires.{operands_of, helpers_at};
 
 use crate::keys::Key;
 use crate::wires::{helpers, number};

@@ -2,8 +2,7 @@
 
 ghost use Rattle.std.specs.Prelude.{◌≡◌, ◌+◌, ◌^◌, ◌<◌, ◌≤◌, ℕ, [], length, replicate, slice_index, IfOk};
 ghost use Rattle.limits.specs.declared.TheConstants.{MAX_SIGNALS, MAX_GATE_OPERANDS};
-ghost use Rattle.net_defs.specs.Loops.{IsOrder};
-ghost use Rattle.net_defs.specs.Valid.{IsValidTiming};
+ghost use Rattle.net_defs.specs.{Loops.IsOrder, Valid.IsValidTiming};
 ghost use Rattle.node_map.specs.code.Wires.{operands_of, helpers_at, rank_at, AreOwnRanks};
 
 use crate::wires::{fill_pasts, number, operands};

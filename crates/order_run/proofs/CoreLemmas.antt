@@ -1,48 +1,27 @@
 -- The core by its core_ports: what each of them is, where there is room for its words, and what the whole is with
 -- one core_port in another's place, as after each of its four events.
 use Rattle.std.proofs.Common.{List, Some, ap, append-nil, arith, get_or-set_other, get_or-set_same, inl, inr, length, length-set, map, mod-lt, mul-le-mul, refl, slice_get, slice_index_or, slice_set, subst, sym, take, take_all, ℕ, ◌*◌, ◌++◌, ◌+◌, ◌<◌, ◌^◌, ◌∙◌, ◌≡◌, ◌≤◌, [], ap₂, ◌%◌, ◌-◌, ◌/◌, ◌∷◌}
-use Rattle.std.proofs.lemmas.Bool.{cases_eq}
-use Rattle.std.proofs.lemmas.List.{drop_all, length-map, map-set}
+use Rattle.std.proofs.lemmas.{Bool.cases_eq, List.drop_all, List.length-map, List.map-set}
 use Rattle.std.proofs.lemmas.Option.{get_or_from_slice_get, slice_get-get_or, slice_get_within}
 use Rattle.std.specs.List.{refill}
 use Rattle.list_laws.proofs.Members.{member_at}
-use Rattle.net_defs.specs.Time.{cycle_count, turn_count}
-use Rattle.net_defs.specs.Valid.{IsValidStimulus}
-use Rattle.net_defs.specs.declared.stimulus.Stimulus.{Stimulus}
-use Rattle.image_defs.specs.Frames.{image_value}
-use Rattle.image_defs.specs.Places.{IsPort}
-use Rattle.image_defs.specs.Steps.{timing_of}
-use Rattle.image_defs.specs.WellFormed.{IsWellFormed}
-use Rattle.image_defs.specs.declared.image.Image.{Image}
-use Rattle.image_defs.specs.declared.image.LinkIn.{LinkIn}
-use Rattle.image_defs.specs.declared.image.LinkOut.{LinkOut}
-use Rattle.image_defs.specs.declared.image.PortImage.{PortImage}
-use Rattle.event_defs.proofs.lemmas.KeptLemmas.{step_sound, read_older, read_value}
+use Rattle.net_defs.specs.{Time.cycle_count, Time.turn_count, Valid.IsValidStimulus, declared.stimulus.Stimulus.Stimulus}
+use Rattle.image_defs.specs.{Frames.image_value, Places.IsPort, Steps.timing_of, WellFormed.IsWellFormed, declared.image.Image.Image}
+use Rattle.image_defs.specs.declared.image.{LinkIn.LinkIn, LinkOut.LinkOut, PortImage.PortImage}
 use Rattle.event_defs.proofs.lemmas.RowLemmas.{number_within, place_within, send_within, set_updated, word_at, word_set}
-use Rattle.event_defs.proofs.lemmas.SlotLemmas.{to_map}
+use Rattle.event_defs.proofs.lemmas.{KeptLemmas.step_sound, KeptLemmas.read_older, KeptLemmas.read_value, SlotLemmas.to_map, NextLemmas.puts_one}
+use Rattle.event_defs.proofs.lemmas.{PaceLemmas.reader_in, PaceLemmas.same_port, WordLemmas.decoded}
 use Rattle.event_defs.specs.Next.{EndsNext, IsNext, ReceivesNext, SendsNext, AsksNext, PutsNext, TakesNext}
-use Rattle.event_defs.specs.Counts.{moves}
 use Rattle.event_defs.specs.Places.{IsSend, start, after_ask, after_put, after_take, after_tell}
 use Rattle.event_defs.specs.Row.{send_count, send_number, word_in, word_place}
 use Rattle.event_defs.specs.Steps.{CoreState, IsStep, updated, Reads, written}
-use Rattle.event_defs.specs.declared.place.Action.{Action}
-use Rattle.event_defs.specs.declared.place.CoreStep.{CoreStep}
-use Rattle.event_defs.specs.declared.place.Place.{Place}
-use Rattle.port_walk.specs.Placed.{IsEnding, IsNextOf, IsReceiving, IsSending, PlacedPort, CanPut, CanTake, CanTakeValue, in_next_turn}
-use Rattle.order_run.specs.Core.{Applies, CoreView, state_of}
-use Rattle.order_run.specs.code.Core.{IsUpcoming}
-use Rattle.order_run.specs.Kept.{IsKept, IsCorePort, view_of}
-use Rattle.event_defs.specs.Sources.{IsSource}
-use Rattle.order_run.specs.CorePorts.{place_in}
-use Rattle.order_run.specs.code.CorePorts.{AtCorePort, HasPutRoom, HasTakeRoom, IsNextIn, HasWritten, IsWordRead, core_port_asked, core_port_put, core_port_taken, core_port_told}
-use Rattle.order_run.specs.declared.core_run.Core.TheInside.{Inside}
-use Rattle.order_run.specs.declared.core_ports.CorePort.{CorePort}
-use Rattle.logic_four.specs.Values.{code_of, value_of}
-use Rattle.logic_four.specs.declared.V4.{V4}
-use Rattle.event_defs.proofs.lemmas.NextLemmas.{puts_one}
-use Rattle.event_defs.proofs.lemmas.PaceLemmas.{reader_in, same_port}
-use Rattle.event_defs.proofs.lemmas.WordLemmas.{decoded}
+use Rattle.event_defs.specs.{Counts.moves, declared.place.Action.Action, declared.place.CoreStep.CoreStep, declared.place.Place.Place, Sources.IsSource}
 use Rattle.event_defs.specs.declared.place.CoreStep.TheVariants.{Moved, NotYet}
+use Rattle.port_walk.specs.Placed.{IsEnding, IsNextOf, IsReceiving, IsSending, PlacedPort, CanPut, CanTake, CanTakeValue, in_next_turn}
+use Rattle.order_run.specs.code.CorePorts.{AtCorePort, HasPutRoom, HasTakeRoom, IsNextIn, HasWritten, IsWordRead, core_port_asked, core_port_put, core_port_taken, core_port_told}
+use Rattle.order_run.specs.{Core.Applies, Core.CoreView, Core.state_of, code.Core.IsUpcoming, Kept.IsKept, Kept.IsCorePort, Kept.view_of, CorePorts.place_in}
+use Rattle.order_run.specs.declared.{core_run.Core.TheInside.Inside, core_ports.CorePort.CorePort}
+use Rattle.logic_four.specs.{Values.code_of, Values.value_of, declared.V4.V4}
 use Rattle.event_defs.specs.declared.place.Action.TheVariants as action
 use Rattle.event_defs.specs.declared.place.Event.TheVariants as event
 

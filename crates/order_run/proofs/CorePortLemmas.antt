@@ -1,11 +1,8 @@
 -- The core_ports: one by its number, and what an event makes of it.
 use Rattle.std.proofs.Common.{List, Some, ap, arith, get_or, inl, inr, le-mul_of_pos_right, length, slice_get, slice_index_or, subst, sym, ℕ, ◌%◌, ◌*◌, ◌+◌, ◌<◌, ◌∙◌, ◌≡◌, ◌≤◌}
-use Rattle.std.proofs.lemmas.Bool.{cases_lt}
-use Rattle.std.proofs.lemmas.Option.{get_or_from_slice_get, slice_get-get_or}
-use Rattle.image_defs.specs.declared.image.LinkIn.{LinkIn}
-use Rattle.image_defs.specs.declared.image.LinkOut.{LinkOut}
-use Rattle.event_defs.proofs.lemmas.AlikeLemmas.{told}
-use Rattle.event_defs.proofs.SourceLemmas.{entry_there}
+use Rattle.std.proofs.lemmas.{Bool.cases_lt, Option.get_or_from_slice_get, Option.slice_get-get_or}
+use Rattle.image_defs.specs.declared.image.{LinkIn.LinkIn, LinkOut.LinkOut}
+use Rattle.event_defs.proofs.{lemmas.AlikeLemmas.told, SourceLemmas.entry_there}
 use Rattle.port_walk.specs.Placed.{CanPut, CanTake, HasPut, HasTaken, IsNextReceipt, IsNextSend, IsReceiving, IsSending, PlacedPort, in_next_turn}
 use Rattle.order_run.specs.code.CorePorts.{AtCorePort, HasPutRoom, HasTakeRoom, core_port_put, core_port_taken, core_port_told}
 use Rattle.order_run.specs.declared.core_ports.CorePort.{CorePort}

@@ -1,18 +1,12 @@
 -- What a run of the core comes to: all rows, and else the rows that are done.
 use Rattle.std.proofs.Common.{Option, Some, ◌≡◌, ◌∙◌, ap, subst, inl, inr, ℕ, ◌*◌}
-use Rattle.net_defs.specs.declared.stimulus.Stimulus.{Stimulus}
-use Rattle.net_defs.specs.declared.trace.Rows.{Rows}
-use Rattle.net_defs.specs.Time.{cycle_count}
-use Rattle.image_defs.specs.declared.image.Image.{Image}
-use Rattle.image_defs.specs.WellFormed.{IsWellFormed}
-use Rattle.event_defs.specs.Sound.{IsSound}
-use Rattle.event_defs.specs.Steps.{rows_done}
+use Rattle.net_defs.specs.{declared.stimulus.Stimulus.Stimulus, declared.trace.Rows.Rows, Time.cycle_count}
+use Rattle.image_defs.specs.{declared.image.Image.Image, WellFormed.IsWellFormed}
+use Rattle.event_defs.specs.{Sound.IsSound, Steps.rows_done}
 use Rattle.order_run.specs.Core.{AreDone, CoreView, IsSameCore, IsStart, rows_of, state_of}
-use Rattle.stim_text.specs.declared.order.Order.{Order}
-use Rattle.stim_text.specs.Orders.{steps_of}
+use Rattle.order_run.specs.{Orders.AreRowsInOrder, code.Stepped.HasStepped, code.Stepped.IsEndingOf}
+use Rattle.stim_text.specs.{declared.order.Order.Order, Orders.steps_of}
 use Rattle.machine_run.specs.Shown.{AreShown}
-use Rattle.order_run.specs.Orders.{AreRowsInOrder}
-use Rattle.order_run.specs.code.Stepped.{HasStepped, IsEndingOf}
 use Rattle.order_run.proofs.StepLemmas.{all_rows, done_same, few_rows, first_steps, same_done, same_image, same_shown}
 
 -- a run of the core, from its start to its last state

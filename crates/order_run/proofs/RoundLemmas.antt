@@ -1,28 +1,21 @@
 -- What one step and one round of a core do.
 use Rattle.std.proofs.Common.{List, Some, [], ap, ap₂, arith, length, map-id, refl, slice_get, slice_index_or, subst, sym, zero-add, ℕ, ◌++◌, ◌+◌, ◌-◌, ◌/◌, ◌<◌, ◌↔◌, ◌∙◌, ◌∷◌, ◌≡◌, ◌≤◌}
-use Rattle.std.proofs.lemmas.List.FromFn.{map-range_with_len_more}
-use Rattle.std.proofs.lemmas.Option.{get_or_from_slice_get, slice_get-get_or, slice_get_within}
+use Rattle.std.proofs.lemmas.{List.FromFn.map-range_with_len_more, Option.get_or_from_slice_get, Option.slice_get-get_or, Option.slice_get_within}
 use Rattle.std.specs.List.{range_with_len}
 use Rattle.list_laws.proofs.Members.{member_at}
-use Rattle.image_defs.specs.Places.{Each, IsPort, host_of}
-use Rattle.image_defs.specs.declared.image.Image.{Image}
-use Rattle.image_defs.specs.declared.image.PortImage.{PortImage}
+use Rattle.image_defs.specs.{Places.Each, Places.IsPort, Places.host_of, declared.image.Image.Image, declared.image.PortImage.PortImage}
 use Rattle.event_defs.proofs.lemmas.JoinLemmas.{moved_join, moved_one, moves_few, steps_join, steps_one}
 use Rattle.event_defs.proofs.lemmas.KeptLemmas.{put_spares, read_value, step_sound, steps_sound}
 use Rattle.event_defs.proofs.lemmas.RunLemmas.{done_still, round_done, run_falls}
-use Rattle.event_defs.specs.Counts.{events_left, moved_in, moves}
-use Rattle.event_defs.specs.Sound.{IsSound}
 use Rattle.event_defs.specs.Steps.{AreSteps, CoreState, IsStep, Takes}
-use Rattle.event_defs.specs.declared.place.Event.TheVariants as event
-use Rattle.event_defs.specs.declared.place.CoreStep.{CoreStep}
+use Rattle.event_defs.specs.{Counts.events_left, Counts.moved_in, Counts.moves, Sound.IsSound, declared.place.CoreStep.CoreStep}
 use Rattle.event_defs.specs.declared.place.CoreStep.TheVariants.{Moved}
+use Rattle.event_defs.specs.declared.place.Event.TheVariants as event
 use Rattle.port_walk.specs.Placed.{PlacedPort}
 use Rattle.order_run.proofs.CoreLemmas.{here_turn, is_core_port, same_core_port, core_port_in, core_port_there}
 use Rattle.order_run.specs.Core.{Applies, AreDone, CoreView, IsRoundOf, IsSoundCore, SparesReaders, TakesThisTurn, left_of, rows_of, state_of, turns_of}
-use Rattle.order_run.specs.code.Core.{HasStepped, IsReady}
-use Rattle.order_run.specs.Kept.{IsKept, IsCorePort, view_of}
-use Rattle.order_run.specs.code.CorePorts.{IsHostCorePort, host_rows}
-use Rattle.order_run.specs.declared.core_run.Core.TheInside.{Inside}
+use Rattle.order_run.specs.{code.Core.HasStepped, code.Core.IsReady, Kept.IsKept, Kept.IsCorePort, Kept.view_of}
+use Rattle.order_run.specs.{code.CorePorts.IsHostCorePort, code.CorePorts.host_rows, declared.core_run.Core.TheInside.Inside}
 use Rattle.order_run.specs.declared.core_ports.CorePort.{CorePort}
 
 -- ---- one step

@@ -1,32 +1,16 @@
 -- A core before its first event.
 use Rattle.std.proofs.Common.{List, Some, [], ap, ap₂, arith, inl, inr, length, length-append, map, max, min, refl, replicate, slice_get, slice_index_or, subst, sym, ℕ, ◌%◌, ◌*◌, ◌++◌, ◌+◌, ◌∙◌, ◌∷◌, ◌≡◌, ◌≤◌}
-use Rattle.std.proofs.Math.Path.{fun_ext}
-use Rattle.std.proofs.lemmas.Bool.{cases_lt}
-use Rattle.std.proofs.lemmas.List.{get_or_past, length-map, length-replicate}
+use Rattle.std.proofs.{Math.Path.fun_ext, lemmas.Bool.cases_lt, lemmas.List.get_or_past, lemmas.List.length-map, lemmas.List.length-replicate}
 use Rattle.std.proofs.lemmas.Option.{slice_get_within, get_or_from_slice_get, slice_get_cases}
-use Rattle.list_laws.proofs.Places.{at_front, seam_at}
-use Rattle.list_laws.proofs.Ranges.{replicate_read}
-use Rattle.net_defs.specs.Time.{cycle_count, turn_count}
-use Rattle.net_defs.specs.Valid.{IsValidStimulus}
-use Rattle.net_defs.specs.declared.stimulus.Stimulus.{Stimulus}
-use Rattle.image_defs.specs.Steps.{timing_of}
-use Rattle.image_defs.specs.WellFormed.{IsWellFormed}
-use Rattle.image_defs.specs.declared.image.Image.{Image}
-use Rattle.event_defs.proofs.lemmas.KeptLemmas.{starts_sound}
-use Rattle.event_defs.proofs.lemmas.RowLemmas.{words_zero}
-use Rattle.event_defs.proofs.lemmas.SlotLemmas.{to_map}
-use Rattle.event_defs.specs.Places.{start}
-use Rattle.event_defs.specs.Row.{send_count, word_in}
-use Rattle.event_defs.specs.Sound.{IsSound}
-use Rattle.event_defs.specs.Steps.{CoreState, first_state}
-use Rattle.event_defs.specs.declared.place.Place.{Place}
+use Rattle.list_laws.proofs.{Places.at_front, Places.seam_at, Ranges.replicate_read}
+use Rattle.net_defs.specs.{Time.cycle_count, Time.turn_count, Valid.IsValidStimulus, declared.stimulus.Stimulus.Stimulus}
+use Rattle.image_defs.specs.{Steps.timing_of, WellFormed.IsWellFormed, declared.image.Image.Image}
+use Rattle.event_defs.proofs.lemmas.{KeptLemmas.starts_sound, RowLemmas.words_zero, SlotLemmas.to_map}
+use Rattle.event_defs.specs.{Places.start, Row.send_count, Row.word_in, Sound.IsSound, Steps.CoreState, Steps.first_state, declared.place.Place.Place}
 use Rattle.port_walk.specs.Placed.{PlacedPort, at_start, block_end, place_of}
-use Rattle.order_run.specs.Core.{IsSoundCore, IsStart, state_of}
-use Rattle.order_run.specs.Kept.{IsKept, IsCorePort, view_of}
-use Rattle.order_run.specs.code.Made.{AreFirstCorePorts, IsFirstCorePort, whole_run}
-use Rattle.order_run.specs.CorePorts.{place_in}
-use Rattle.order_run.specs.declared.core_run.Core.TheInside.{Inside}
-use Rattle.order_run.specs.declared.core_ports.CorePort.{CorePort}
+use Rattle.order_run.specs.{Core.IsSoundCore, Core.IsStart, Core.state_of, Kept.IsKept, Kept.IsCorePort, Kept.view_of}
+use Rattle.order_run.specs.{code.Made.AreFirstCorePorts, code.Made.IsFirstCorePort, code.Made.whole_run, CorePorts.place_in}
+use Rattle.order_run.specs.declared.{core_run.Core.TheInside.Inside, core_ports.CorePort.CorePort}
 
 -- the core_port of a port before its first event stands at the start
 pub core_port_starts : (image : Image) (stimulus : Stimulus) (banks p : ℕ) (core_port : CorePort) → IsFirstCorePort image stimulus banks p core_port → place_in core_port ≡ start (length image.ports)

@@ -1,29 +1,20 @@
 -- Steps of a core, one after another, and the rows that are done after them.
 use Rattle.std.proofs.Common.{◌≡◌, ◌∙◌, sym, ap, subst, refl, ℕ, zero, suc, ◌+◌, ◌-◌, ◌*◌, ◌/◌, ◌<◌, ◌≤◌, List, [], ◌∷◌, ◌++◌, length, replicate, take, drop, get_or, Some, slice_get, arith}
-use Rattle.std.specs.List.{flat_map, All}
-use Rattle.std.proofs.Math.Nat.{mul-div_cancel_left, div-le_of_le-mul}
-use Rattle.std.proofs.lemmas.Grind.{flat_map-append}
-use Rattle.std.proofs.lemmas.List.{take-append-drop, replicate-append-replicate, replicate_more}
-use Rattle.std.proofs.lemmas.List.Elements.{All-head, All-tail, All-replicate}
+use Rattle.std.proofs.{Math.Nat.mul-div_cancel_left, Math.Nat.div-le_of_le-mul, lemmas.Grind.flat_map-append}
+use Rattle.std.proofs.lemmas.List.{take-append-drop, replicate-append-replicate, replicate_more, Elements.All-head, Elements.All-tail, Elements.All-replicate}
 use Rattle.std.proofs.lemmas.Option.{slice_get-get_or}
-use Rattle.list_laws.proofs.Maps.{flat_map_grown}
-use Rattle.list_laws.proofs.Members.{all_back, all_flat_of}
+use Rattle.std.specs.List.{flat_map, All}
+use Rattle.list_laws.proofs.{Maps.flat_map_grown, Members.all_back, Members.all_flat_of}
 use Rattle.stim_text.specs.declared.order.OrderLine.{OrderLine}
-use Rattle.net_defs.specs.declared.stimulus.Stimulus.{Stimulus}
-use Rattle.net_defs.specs.Time.{cycle_count}
-use Rattle.image_defs.specs.declared.image.Image.{Image}
-use Rattle.image_defs.specs.declared.image.PortImage.{PortImage}
-use Rattle.image_defs.specs.Places.{IsPort, host_of}
-use Rattle.image_defs.specs.WellFormed.{IsWellFormed}
+use Rattle.net_defs.specs.{declared.stimulus.Stimulus.Stimulus, Time.cycle_count, declared.trace.CellRow.CellRow}
+use Rattle.image_defs.specs.{declared.image.Image.Image, declared.image.PortImage.PortImage, Places.IsPort, Places.host_of, WellFormed.IsWellFormed}
 use Rattle.node_defs.proofs.lemmas.MemberLemmas.{member_at}
-use Rattle.event_defs.specs.declared.place.CoreStep.{CoreStep}
-use Rattle.event_defs.specs.declared.place.CoreStep.TheVariants.{Moved, NotYet, Done}
-use Rattle.event_defs.specs.Sound.{IsSound}
 use Rattle.event_defs.specs.Steps.{CoreState, AreSteps, AreFirstSteps, IsStep, AllDone, first_state, rows_done}
+use Rattle.event_defs.specs.declared.place.CoreStep.{CoreStep, TheVariants.Moved, TheVariants.NotYet, TheVariants.Done}
+use Rattle.event_defs.specs.Sound.{IsSound}
 use Rattle.order_run.specs.Core.{CoreView, IsStart, IsSameCore, IsSoundCore, Applies, AreDone, state_of, turns_of, rows_of}
-use Rattle.net_defs.specs.declared.trace.CellRow.{CellRow}
-use Rattle.machine_run.specs.Shown.{AreShown}
 use Rattle.order_run.specs.code.Stepped.{HasStepped}
+use Rattle.machine_run.specs.Shown.{AreShown}
 
 -- ---- steps of states
 

@@ -1,23 +1,11 @@
 -- A core as contracts see it, and what its steps do.
 use Rattle.std.specs.Prelude.{List, length, slice_index_or, ℕ, ◌*◌, ◌+◌, ◌≡◌, ◌≤◌}
 use Rattle.logic_four.specs.Values.{code_of}
-use Rattle.net_defs.specs.Time.{turn_count}
-use Rattle.net_defs.specs.declared.stimulus.Stimulus.{Stimulus}
-use Rattle.image_defs.specs.Frames.{image_value}
-use Rattle.image_defs.specs.Places.{IsPort, Stands}
-use Rattle.image_defs.specs.Steps.{timing_of}
-use Rattle.image_defs.specs.declared.image.Image.{Image}
-use Rattle.image_defs.specs.declared.image.PortImage.{PortImage}
-use Rattle.event_defs.specs.Counts.{events_left, moved_in, moves}
-use Rattle.event_defs.specs.Next.{PutsNext}
-use Rattle.event_defs.specs.Places.{start}
-use Rattle.event_defs.specs.Row.{word_in}
-use Rattle.event_defs.specs.Sound.{IsSound}
+use Rattle.net_defs.specs.{Time.turn_count, declared.stimulus.Stimulus.Stimulus}
+use Rattle.image_defs.specs.{Frames.image_value, Places.IsPort, Places.Stands, Steps.timing_of, declared.image.Image.Image, declared.image.PortImage.PortImage}
 use Rattle.event_defs.specs.Steps.{AllDone, CoreState, IsRound, IsStep, Reads, first_state, rows_done}
-use Rattle.event_defs.specs.declared.place.CoreStep.{CoreStep}
-use Rattle.event_defs.specs.declared.place.CoreStep.TheVariants.{Moved}
-use Rattle.event_defs.specs.declared.place.Event.TheVariants.{Put, Take}
-use Rattle.event_defs.specs.declared.place.Place.{Place}
+use Rattle.event_defs.specs.{Counts.events_left, Counts.moved_in, Counts.moves, Next.PutsNext, Places.start, Row.word_in, Sound.IsSound}
+use Rattle.event_defs.specs.declared.place.{CoreStep.CoreStep, CoreStep.TheVariants.Moved, Event.TheVariants.Put, Event.TheVariants.Take, Place.Place}
 
 -- a core of an image and a stimulus, with so many banks: the places of its ports, how many turns each has told
 -- to be finished, and the words of all sends in one row

@@ -1,19 +1,9 @@
 -- What a core keeps.
 use Rattle.std.specs.Prelude.{◌≡◌, ℕ, ◌*◌, ◌%◌, ◌≤◌, length, map, Some, slice_get}
-use Rattle.net_defs.specs.declared.stimulus.Stimulus.{Stimulus}
-use Rattle.net_defs.specs.Time.{turn_count}
-use Rattle.net_defs.specs.Valid.{IsValidStimulus}
-use Rattle.image_defs.specs.declared.image.PortImage.{PortImage}
-use Rattle.image_defs.specs.declared.image.Image.{Image}
-use Rattle.image_defs.specs.Places.{IsPort}
-use Rattle.image_defs.specs.Steps.{timing_of}
-use Rattle.image_defs.specs.WellFormed.{IsWellFormed}
-use Rattle.event_defs.specs.Row.{send_count, sends_before}
-use Rattle.order_run.specs.declared.core_run.Core.TheInside.{Inside}
-use Rattle.order_run.specs.declared.core_ports.CorePort.{CorePort}
-use Rattle.order_run.specs.Core.{CoreView, IsSoundCore}
-use Rattle.event_defs.specs.Sources.{AreSources}
-use Rattle.order_run.specs.CorePorts.{place_in}
+use Rattle.net_defs.specs.{declared.stimulus.Stimulus.Stimulus, Time.turn_count, Valid.IsValidStimulus}
+use Rattle.image_defs.specs.{declared.image.PortImage.PortImage, declared.image.Image.Image, Places.IsPort, Steps.timing_of, WellFormed.IsWellFormed}
+use Rattle.event_defs.specs.{Row.send_count, Row.sends_before, Sources.AreSources}
+use Rattle.order_run.specs.{declared.core_run.Core.TheInside.Inside, declared.core_ports.CorePort.CorePort, Core.CoreView, Core.IsSoundCore, CorePorts.place_in}
 
 abbrev pub view_of : Inside → CoreView
 view_of a = record {

@@ -1,14 +1,11 @@
 -- The rows that are done by the end of an order.
 use Rattle.std.specs.Prelude.{◌≡◌, ◌≤◌, ◌⊎◌, ◌*◌, ℕ, List, None, Option, Some}
-use Rattle.net_defs.specs.declared.stimulus.Stimulus.{Stimulus}
-use Rattle.net_defs.specs.declared.trace.Rows.{Rows}
-use Rattle.net_defs.specs.Time.{cycle_count}
+use Rattle.net_defs.specs.{declared.stimulus.Stimulus.Stimulus, declared.trace.Rows.Rows, Time.cycle_count}
 use Rattle.image_defs.specs.declared.image.Image.{Image}
-use Rattle.event_defs.specs.declared.place.CoreStep.{CoreStep}
 use Rattle.event_defs.specs.Steps.{AllDone, AreFirstSteps, CoreState, rows_done}
+use Rattle.event_defs.specs.declared.place.CoreStep.{CoreStep}
 use Rattle.machine_run.specs.Shown.{AreShown}
-use Rattle.stim_text.specs.declared.order.Order.{Order}
-use Rattle.stim_text.specs.Orders.{steps_of}
+use Rattle.stim_text.specs.{declared.order.Order.Order, Orders.steps_of}
 
 -- the rows that are done after the steps of an order, one by one from the start, and how many they are if a port is
 -- not done

@@ -2,13 +2,11 @@
 
 ghost use Rattle.std.specs.Prelude.{IfOk, length, slice_set, ℕ, ◌%◌, ◌+◌, ◌<◌, ◌^◌, ◌≡◌, ◌≤◌};
 ghost use Rattle.net_defs.specs.Valid.{IsValidStimulus};
-ghost use Rattle.image_defs.specs.WellFormed.{IsWellFormed};
-ghost use Rattle.image_defs.specs.declared.image.LinkIn.{LinkIn};
-ghost use Rattle.image_defs.specs.declared.image.LinkOut.{LinkOut};
+ghost use Rattle.image_defs.specs.{WellFormed.IsWellFormed, declared.image.LinkIn.LinkIn, declared.image.LinkOut.LinkOut};
 ghost use Rattle.port_walk.specs.Placed.{CanPut, CanTake, CanTakeValue, IsEnding, IsReceiving, IsSending};
 ghost use Rattle.event_defs.specs.Sources.{AreFirsts};
-ghost use Rattle.order_run.specs.code.Made.{AreFirstCorePorts, IsFirstCorePort, whole_run};
 ghost use Rattle.order_run.specs.code.CorePorts.{AtCorePort, HasPutRoom, HasTakeRoom, HasWritten, IsNextIn, IsWordRead, core_port_asked, core_port_put, core_port_taken, core_port_told};
+ghost use Rattle.order_run.specs.code.Made.{AreFirstCorePorts, IsFirstCorePort, whole_run};
 
 use crate::words::{first_bank, next_bank, place_of, word_of};
 use event_defs::Action;

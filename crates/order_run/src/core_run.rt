@@ -3,15 +3,11 @@
 ghost use Rattle.std.specs.Prelude.{IfOk, IsTrue, List, false, if◌then◌else◌, length, replicate, ℕ, ◌+◌, ◌<◌, ◌↔◌, ◌≡◌, ◌≤◌};
 ghost use Rattle.logic_four.specs.Values.{value_at};
 ghost use Rattle.net_defs.specs.Valid.{IsValidStimulus};
-ghost use Rattle.image_defs.specs.Frames.{shown};
-ghost use Rattle.image_defs.specs.Places.{Each};
-ghost use Rattle.image_defs.specs.WellFormed.{IsWellFormed};
-ghost use Rattle.event_defs.specs.Counts.{moves};
-ghost use Rattle.event_defs.specs.declared.place.CoreStep.TheVariants.{Moved};
+ghost use Rattle.image_defs.specs.{Frames.shown, Places.Each, WellFormed.IsWellFormed};
+ghost use Rattle.event_defs.specs.{Counts.moves, declared.place.CoreStep.TheVariants.Moved, Sources.AreFirsts};
 ghost use Rattle.event_defs.specs.declared.place.Action.TheVariants as action;
 ghost use Rattle.event_defs.specs.declared.place.Event.TheVariants as event;
 ghost use Rattle.port_host.specs.Rows.{printed_sources};
-ghost use Rattle.event_defs.specs.Sources.{AreFirsts};
 ghost use Rattle.order_run.specs.Core.{Applies, AreDone, IsRoundOf, IsSoundCore, IsStart, SparesReaders, TakesThisTurn, left_of, rows_of};
 ghost use Rattle.order_run.specs.code.Core.{IsReady, IsUpcoming};
 

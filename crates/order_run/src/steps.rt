@@ -4,13 +4,10 @@ ghost use Rattle.std.specs.Prelude.{◌≡◌, ◌<◌, ◌≤◌, ℕ, Some, If
 ghost use Rattle.std.specs.List.{flat_map};
 ghost use Rattle.image_defs.specs.WellFormed.{IsWellFormed};
 ghost use Rattle.machine_run.specs.Shown.{AreShown};
-ghost use Rattle.net_defs.specs.Time.{cycle_count};
-ghost use Rattle.net_defs.specs.Valid.{IsValidStimulus};
-ghost use Rattle.stim_text.specs.declared.order.OrderLine.{OrderLine};
-ghost use Rattle.stim_text.specs.Orders.{IsValidOrder};
+ghost use Rattle.net_defs.specs.{Time.cycle_count, Valid.IsValidStimulus};
+ghost use Rattle.stim_text.specs.{declared.order.OrderLine.OrderLine, Orders.IsValidOrder};
 ghost use Rattle.order_run.specs.Core.{AreDone, IsSameCore, IsSoundCore, rows_of};
-ghost use Rattle.order_run.specs.Orders.{AreRowsInOrder};
-ghost use Rattle.order_run.specs.code.Stepped.{HasStepped, IsEndingOf};
+ghost use Rattle.order_run.specs.{Orders.AreRowsInOrder, code.Stepped.HasStepped, code.Stepped.IsEndingOf};
 
 use crate::{Core, CoreStep};
 use event_defs::law::steps_are_sound;

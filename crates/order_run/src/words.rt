@@ -2,8 +2,7 @@
 
 ghost use Rattle.std.specs.Prelude.{IsTrue, ℕ, ◌%◌, ◌*◌, ◌+◌, ◌-◌, ◌<◌, ◌^◌, ◌↔◌, ◌≡◌, ◌≤◌};
 ghost use Rattle.logic_four.specs.Values.{code_of};
-ghost use Rattle.event_defs.specs.Row.{word_place};
-ghost use Rattle.event_defs.specs.Steps.{stamp_of};
+ghost use Rattle.event_defs.specs.{Row.word_place, Steps.stamp_of};
 
 use logic_four::{V4, code};
 

@@ -1,27 +1,15 @@
 -- What an image has, and what it shows, depends on a stimulus by the values of the inputs at each turn alone.
 use Rattle.std.proofs.Common.{◌≡◌, ap, refl, true, false, cond, eqb, ℕ, zero, suc, ◌*◌, List, [], ◌∷◌, map, Bool, Option, Some, None, slice_get}
-use Rattle.std.specs.Prelude.{unwrap_or}
-use Rattle.std.specs.Option.{option_map}
-use Rattle.std.specs.List.{position_or_len}
-use Rattle.logic_four.specs.declared.V4.{V4}
-use Rattle.logic_four.specs.Values.{value_at}
-use Rattle.logic_four.specs.Memory.{MemoryAct}
-use Rattle.net_defs.specs.declared.stimulus.Stimulus.{Stimulus}
-use Rattle.net_defs.specs.Time.{input_at, is_edge}
+use Rattle.std.specs.{Prelude.unwrap_or, Option.option_map, List.position_or_len}
+use Rattle.logic_four.specs.{declared.V4.V4, Values.value_at, Memory.MemoryAct}
+use Rattle.net_defs.specs.{declared.stimulus.Stimulus.Stimulus, Time.input_at, Time.is_edge}
 use Rattle.func_table.specs.declared.table.Table.{Table}
-use Rattle.image_defs.specs.declared.image.Source.{Source}
-use Rattle.image_defs.specs.declared.image.Source.TheVariants.{Own, Got, Const}
-use Rattle.image_defs.specs.declared.image.Task.{Task}
-use Rattle.image_defs.specs.declared.image.Task.TheVariants.{Eval, Hold}
-use Rattle.image_defs.specs.declared.image.BlockWork.{BlockWork}
-use Rattle.image_defs.specs.declared.image.LinkIn.{LinkIn}
-use Rattle.image_defs.specs.declared.image.Work.{Work}
-use Rattle.image_defs.specs.declared.image.Work.TheVariants.{Logic, Array, Host}
-use Rattle.image_defs.specs.declared.image.PortImage.{PortImage}
-use Rattle.image_defs.specs.declared.image.Image.{Image}
 use Rattle.image_defs.specs.Places.{item_slots, blocks_of, printed_of, host_of}
 use Rattle.image_defs.specs.Steps.{Frame, Grid, timing_of, source_value, past_value, block_act, value_of_member, block_bit, block_words_after, task_value, item_value}
 use Rattle.image_defs.specs.Frames.{slot_value, filled, words_by, next_frame, frame, printed_value, shown}
+use Rattle.image_defs.specs.declared.image.{Source.Source, Source.TheVariants.Own, Source.TheVariants.Got, Source.TheVariants.Const, Task.Task}
+use Rattle.image_defs.specs.declared.image.{Task.TheVariants.Eval, Task.TheVariants.Hold, BlockWork.BlockWork, LinkIn.LinkIn, Work.Work}
+use Rattle.image_defs.specs.declared.image.{Work.TheVariants.Logic, Work.TheVariants.Array, Work.TheVariants.Host, PortImage.PortImage, Image.Image}
 
 -- ---- one port
 

@@ -1,32 +1,21 @@
 -- The lines of lanes: of a row, of a lane, and of all lanes.
 use Rattle.std.proofs.Common.{List, Some, [], ap, arith, get_or, inl, inr, length, set, slice_get, sym, ℕ, ◌*◌, ◌+◌, ◌<◌, ◌∙◌, ◌≡◌, ◌≤◌}
-use Rattle.std.specs.Prelude.{unwrap_or}
-use Rattle.std.specs.List.{enumerate_from}
-use Rattle.std.proofs.Math.Nat.{mul-le-mul_left}
-use Rattle.std.proofs.lemmas.Bool.{cases_eq}
-use Rattle.std.proofs.lemmas.List.{length-set}
-use Rattle.std.proofs.lemmas.List.FromFn.{get_or-enumerate_from, length-map-range_with_len}
-use Rattle.std.proofs.lemmas.Option.{get_or_from_slice_get, slice_get-get_or}
+use Rattle.std.proofs.{Math.Nat.mul-le-mul_left, lemmas.Bool.cases_eq, lemmas.List.length-set}
+use Rattle.std.proofs.lemmas.{List.FromFn.get_or-enumerate_from, List.FromFn.length-map-range_with_len, Option.get_or_from_slice_get, Option.slice_get-get_or}
+use Rattle.std.specs.{Prelude.unwrap_or, List.enumerate_from}
 use Rattle.machine_run.proofs.lemmas.LinesLemmas.{row_shown}
 use Rattle.machine_run.specs.Lines.{cells_shown}
 use Rattle.crew_run.proofs.lemmas.Places.{set_other, set_same}
-use Rattle.image_defs.specs.Frames.{shown}
-use Rattle.image_defs.specs.Steps.{timing_of}
-use Rattle.image_defs.specs.declared.image.Image.{Image}
-use Rattle.logic_four.specs.declared.V4.{V4}
-use Rattle.logic_four.specs.declared.V4.TheVariants.{Undef}
-use Rattle.logic_four.specs.Values.{value_at}
-use Rattle.net_defs.specs.declared.netlist.Netlist.{Netlist}
-use Rattle.net_defs.specs.declared.stimulus.Stimulus.{Stimulus}
+use Rattle.image_defs.specs.{Frames.shown, Steps.timing_of, declared.image.Image.Image}
+use Rattle.logic_four.specs.{declared.V4.V4, declared.V4.TheVariants.Undef, Values.value_at}
+use Rattle.net_defs.specs.declared.{netlist.Netlist.Netlist, stimulus.Stimulus.Stimulus}
 use Rattle.slot_words.specs.packed.Words.{stimulus_of, turns_of}
 use Rattle.port_host.specs.Rows.{printed_sources}
 use Rattle.seen_list.specs.Filling.{Filling}
 use Rattle.stim_text.proofs.lemmas.LaneLemmas.{lane_input}
-use Rattle.stim_text.specs.Lanes.{longest, own_stimulus}
+use Rattle.stim_text.specs.{Lanes.longest, Lanes.own_stimulus, declared.lanes.Lanes.Lanes}
 use Rattle.trace_text.specs.Line.{row_room}
-use Rattle.stim_text.specs.declared.lanes.Lanes.{Lanes}
-use Rattle.pack_machine.specs.code.Lines.{HasLineRoom}
-use Rattle.pack_machine.specs.declared.lines.LaneLines.{LaneLines}
+use Rattle.pack_machine.specs.{code.Lines.HasLineRoom, declared.lines.LaneLines.LaneLines}
 use Rattle.pack_machine.proofs.FrameLemmas.{shown_same}
 
 -- ---- the host

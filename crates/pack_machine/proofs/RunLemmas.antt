@@ -2,28 +2,19 @@
 -- have made them.
 use Rattle.std.proofs.Common.{List, Option, Some, ap, arith, length, slice_get, ℕ, ◌*◌, ◌+◌, ◌<◌, ◌^◌, ◌∙◌, ◌≡◌, ◌≤◌}
 use Rattle.std.proofs.lemmas.Nat.{mul-le}
-use Rattle.crew_run.specs.Crews.{CanTell}
-use Rattle.crew_run.specs.Lending.{AllCanRunWith, AllHaveRunWith}
+use Rattle.crew_run.specs.{Crews.CanTell, Lending.AllCanRunWith, Lending.AllHaveRunWith, declared.worker.Worker.Worker}
 use Rattle.crew_run.specs.declared.gate.Gate as gate
-use Rattle.crew_run.specs.declared.worker.Worker.{Worker}
-use Rattle.image_defs.specs.Places.{host_of}
-use Rattle.image_defs.specs.WellFormed.{IsWellFormed}
-use Rattle.image_defs.specs.declared.image.Image.{Image}
+use Rattle.image_defs.specs.{Places.host_of, WellFormed.IsWellFormed, declared.image.Image.Image}
 use Rattle.limits.specs.declared.TheConstants.{MAX_CYCLES, MAX_UNITS}
-use Rattle.machine_run.proofs.MoveLemmas.{dealt_moved, have_ended}
-use Rattle.machine_run.proofs.lemmas.RoomLemmas.{can_tell_few}
+use Rattle.machine_run.proofs.{MoveLemmas.dealt_moved, MoveLemmas.have_ended, lemmas.RoomLemmas.can_tell_few}
 use Rattle.machine_run.proofs.lemmas.VisitLemmas.{all_visited, can_run, visited_in_place}
-use Rattle.machine_run.specs.Visits.{AreInPlace, AreVisitsOf}
-use Rattle.machine_run.specs.code.Moves.{HasEnded}
+use Rattle.machine_run.specs.{Visits.AreInPlace, Visits.AreVisitsOf, code.Moves.HasEnded}
 use Rattle.stim_text.proofs.lemmas.LaneLemmas.{longest_few}
-use Rattle.stim_text.specs.Lanes.{AreLanes, longest}
-use Rattle.stim_text.specs.declared.lanes.Lanes.{Lanes}
-use Rattle.pack_run.specs.Pairs.{last_turn}
+use Rattle.stim_text.specs.{Lanes.AreLanes, Lanes.longest, declared.lanes.Lanes.Lanes}
+use Rattle.pack_run.specs.{Pairs.last_turn, declared.seated.PackSeated.PackSeated}
 use Rattle.pack_run.specs.contracts.seated.PackSeatedStepper.TheImpl as seated
-use Rattle.pack_run.specs.declared.seated.PackSeated.{PackSeated}
 use Rattle.slot_words.specs.packed.Words.{turns_of}
-use Rattle.pack_machine.specs.code.Crews.{at_end, at_first}
-use Rattle.pack_machine.specs.code.Dealt.{AreDealt, IsSeatOf}
+use Rattle.pack_machine.specs.code.{Crews.at_end, Crews.at_first, Dealt.AreDealt, Dealt.IsSeatOf}
 
 module _ {G : Type 0} (image : Image) (lanes : Lanes) (workers : ℕ) (fits : IsWellFormed image) (are : AreLanes image.columns lanes) (p : gate.Ghosts G) (gates : List (Option G)) (enough : workers ≤ length gates)
     (ws : List (Worker PackSeated G)) (dealt : AreDealt (at_first image lanes workers) 0 ws) where

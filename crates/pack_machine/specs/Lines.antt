@@ -4,8 +4,7 @@ use Rattle.std.specs.List.{enumerate_from, flat_map}
 use Rattle.machine_run.specs.Lines.{bytes_of_run}
 use Rattle.image_defs.specs.declared.image.Image.{Image}
 use Rattle.trace_text.specs.Lines.{lane_line}
-use Rattle.net_defs.specs.declared.netlist.Netlist.{Netlist}
-use Rattle.net_defs.specs.declared.stimulus.Stimulus.{Stimulus}
+use Rattle.net_defs.specs.declared.{netlist.Netlist.Netlist, stimulus.Stimulus.Stimulus}
 use Rattle.stim_text.specs.declared.lanes.Lanes.{Lanes}
 
 -- the line of a lane, and what a run of the lane's own stimulus writes: the header, and the lines of its own cycles

@@ -6,9 +6,7 @@ ghost use Rattle.edge_io.specs.Writing.{Writes};
 ghost use Rattle.image_defs.specs.declared.image.Image.{Image};
 ghost use Rattle.port_host.specs.Rows.{printed_sources};
 ghost use Rattle.stim_text.specs.Lanes.{AreLanes, longest};
-ghost use Rattle.pack_machine.specs.Lines.{bytes_of_lane, bytes_of_lanes};
-ghost use Rattle.pack_machine.specs.code.Ends.{IsHostAtEnd};
-ghost use Rattle.pack_machine.specs.code.Lines.{HasLineRoom, cells_in_lane};
+ghost use Rattle.pack_machine.specs.{Lines.bytes_of_lane, Lines.bytes_of_lanes, code.Ends.IsHostAtEnd, code.Lines.HasLineRoom, code.Lines.cells_in_lane};
 
 use edge_io::{Sink, WriteNo};
 use logic_four::V4;

@@ -7,10 +7,7 @@ ghost use Rattle.image_defs.specs.WellFormed.{IsWellFormed};
 ghost use Rattle.machine_run.specs.Visits.{AreInPlace, AreVisitsOf};
 ghost use Rattle.port_host.specs.Rows.{printed_sources};
 ghost use Rattle.stim_text.specs.Lanes.{AreLanes, longest};
-ghost use Rattle.pack_machine.specs.Lines.{bytes_of_lanes};
-ghost use Rattle.pack_machine.specs.code.Crews.{at_end};
-ghost use Rattle.pack_machine.specs.code.Dealt.{AreDealt};
-ghost use Rattle.pack_machine.specs.code.Ends.{IsHostAtEnd};
+ghost use Rattle.pack_machine.specs.{Lines.bytes_of_lanes, code.Crews.at_end, code.Dealt.AreDealt, code.Ends.IsHostAtEnd};
 
 use crate::lines::{line_room, write_lanes};
 use crate::seats::PackSeats;

@@ -1,8 +1,7 @@
 //! The members of a packed crew: each a packed port beside its crossbar.
 
 ghost use Rattle.std.specs.Prelude.{IfOk, ◌≡◌};
-ghost use Rattle.pack_machine.specs.code.Crews.{at_first};
-ghost use Rattle.pack_machine.specs.code.Dealt.{CanSeat, IsSeatOf};
+ghost use Rattle.pack_machine.specs.code.{Crews.at_first, Dealt.CanSeat, Dealt.IsSeatOf};
 
 use image_defs::Image;
 use machine_run::Seats;
@@ -23,8 +22,7 @@ pub(crate) struct PackSeats<'a> {
 
 impl<'a> Seats for PackSeats<'a> {
     ghost use Rattle.std.specs.Prelude.{length};
-    ghost use Rattle.pack_machine.specs.code.Crews.{at_first};
-    ghost use Rattle.pack_machine.specs.code.Dealt.{CanSeat, IsSeatOf};
+    ghost use Rattle.pack_machine.specs.code.{Crews.at_first, Dealt.CanSeat, Dealt.IsSeatOf};
 
     type Pass = PackPass;
 

@@ -7,43 +7,31 @@ use Rattle.limits.specs.declared.TheConstants.{LANES}
 use Rattle.logic_four.specs.Values.{code_of}
 use Rattle.net_defs.specs.declared.stimulus.Stimulus.{Stimulus}
 use Rattle.stim_text.specs.declared.lanes.Lanes.{Lanes}
-use Rattle.image_defs.specs.Frames.{image_value}
-use Rattle.image_defs.specs.Places.{IsPort, Stands}
-use Rattle.image_defs.specs.declared.image.Image.{Image}
-use Rattle.image_defs.specs.declared.image.LinkOut.{LinkOut}
+use Rattle.image_defs.specs.{Frames.image_value, Places.IsPort, Places.Stands, declared.image.Image.Image, declared.image.LinkOut.LinkOut}
 use Rattle.image_defs.specs.declared.image.PortImage.{PortImage}
-use Rattle.event_defs.proofs.lemmas.KeptLemmas.{step_sound}
-use Rattle.event_defs.proofs.lemmas.PaceLemmas.{latest_missing}
-use Rattle.event_defs.proofs.lemmas.SlotLemmas.{updated_here, updated_there}
+use Rattle.event_defs.proofs.lemmas.{KeptLemmas.step_sound, PaceLemmas.latest_missing, SlotLemmas.updated_here, SlotLemmas.updated_there}
 use Rattle.event_defs.specs.Next.{AsksNext, ReceivesNext, SendsNext, TellsNext}
 use Rattle.event_defs.specs.Places.{IsSend, after_ask, after_put, after_take, after_tell, known_of, latest}
-use Rattle.event_defs.specs.Row.{send_number, word_place}
 use Rattle.event_defs.specs.Steps.{CoreState, Moves, Reads, Waits, stamp_of, updated, written}
-use Rattle.event_defs.specs.declared.place.CoreStep.TheVariants.{Done, Moved, NotYet}
-use Rattle.event_defs.specs.declared.place.Event.{Event}
 use Rattle.event_defs.specs.declared.place.Event.TheVariants.{Ask, Put, Take, Tell}
-use Rattle.event_defs.specs.declared.place.Place.{Place}
+use Rattle.event_defs.specs.Row.{send_number, word_place}
+use Rattle.event_defs.specs.declared.place.{CoreStep.TheVariants.Done, CoreStep.TheVariants.Moved, CoreStep.TheVariants.NotYet, Event.Event, Place.Place}
 use Rattle.atomic_table.proofs.Lists.{at_set}
-use Rattle.atomic_table.specs.Seated.{TableId}
-use Rattle.atomic_table.specs.Table.{Act, State, stepped}
+use Rattle.atomic_table.specs.{Seated.TableId, Table.Act, Table.State, Table.stepped}
 use Rattle.list_laws.proofs.Members.{member_at}
-use Rattle.slot_words.proofs.LookLemmas.{counted_look, told_progress, told_sent}
-use Rattle.slot_words.proofs.lemmas.SoundLemmas.{told_none}
-use Rattle.slot_words.proofs.StepLemmas.{near_sender, sent_read}
 use Rattle.slot_words.proofs.lemmas.TimeLemmas.{progress_kept, progress_set, send_room, sent_set}
+use Rattle.slot_words.proofs.{LookLemmas.counted_look, LookLemmas.told_progress, LookLemmas.told_sent, lemmas.SoundLemmas.told_none}
+use Rattle.slot_words.proofs.{StepLemmas.near_sender, StepLemmas.sent_read, PackedLemmas.one_kept, PackedLemmas.rule_sound}
 use Rattle.slot_words.specs.Layout.{progress_in, progress_word, send_word, sent_in, told_in, turns_told}
-use Rattle.slot_words.specs.Rule.{HasPass, IsKept, IsPassOf}
-use Rattle.slot_words.specs.declared.rule.TheConstants.{UNCLAIMED}
-use Rattle.port_run.proofs.lemmas.NextLemmas.{asked_in}
-use Rattle.port_run.specs.Core.{is_look}
-use Rattle.slot_words.proofs.PackedLemmas.{one_kept, rule_sound}
-use Rattle.slot_words.specs.packed.Passes.{PackPassView}
 use Rattle.slot_words.specs.packed.Sound.{ArePassesSound, Kept, PackKey, PackView}
 use Rattle.slot_words.specs.packed.Words.{packed, packs, stimulus_of, turns_of}
+use Rattle.slot_words.specs.{Rule.HasPass, Rule.IsKept, Rule.IsPassOf, declared.rule.TheConstants.UNCLAIMED, packed.Passes.PackPassView}
+use Rattle.port_run.proofs.lemmas.NextLemmas.{asked_in}
+use Rattle.port_run.specs.Core.{is_look}
 use Rattle.pack_run.proofs.LaneLemmas.{both_written, lane_word, not_before, only_bank, plain_before, plain_now, put_word, stamp_last}
 use Rattle.pack_run.specs.Core.{IsCoreEvent, IsCoreStep, IsLaneWord, IsStateIn, IsStateOf, ShowsIn, pass_in}
-use Rattle.pack_run.specs.Pairs.{HasMadeAll}
 use Rattle.pack_run.specs.Steps.{AskWaits, HasAsked, HasTaken, IsEvent, IsWait, Looks, Makes, Puts, TakeWaits, Tells}
+use Rattle.pack_run.specs.Pairs.{HasMadeAll}
 
 -- the lane's state of a packed crossbar
 pub state_there : (key : PackKey) (s : State (Unit {0}) PackView) (l : ℕ) → l < LANES → Kept key s → (state : CoreState) × IsStateOf key s l state

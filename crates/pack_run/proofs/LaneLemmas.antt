@@ -2,19 +2,12 @@
 use Rattle.std.proofs.Common.{ap, arith, inl, inr, refl, subst, sym, ℕ, ◌%◌, ◌*◌, ◌+◌, ◌<◌, ◌∙◌, ◌≡◌, ◌≢◌, ◌≤◌}
 use Rattle.std.proofs.lemmas.Bool.{cases_eq}
 use Rattle.limits.specs.declared.TheConstants.{LANES}
-use Rattle.logic_four.specs.Values.{code_of}
-use Rattle.logic_four.specs.declared.V4.{V4}
-use Rattle.lane_planes.specs.Lanes.{lane_of}
-use Rattle.lane_planes.specs.declared.planes.Planes.{Planes}
-use Rattle.event_defs.proofs.lemmas.SlotLemmas.{updated_here}
-use Rattle.event_defs.proofs.lemmas.StampLemmas.{written_here, written_there}
-use Rattle.event_defs.proofs.lemmas.WordLemmas.{stamp_in as stamp_of_put}
-use Rattle.event_defs.specs.Sound.{AreStamps}
-use Rattle.event_defs.specs.Steps.{written}
+use Rattle.logic_four.specs.{Values.code_of, declared.V4.V4}
+use Rattle.lane_planes.specs.{Lanes.lane_of, declared.planes.Planes.Planes}
+use Rattle.event_defs.proofs.lemmas.{SlotLemmas.updated_here, StampLemmas.written_here, StampLemmas.written_there, WordLemmas.stamp_in as stamp_of_put}
+use Rattle.event_defs.specs.{Sound.AreStamps, Steps.written}
 use Rattle.event_defs.specs.Steps as core
-use Rattle.slot_words.specs.packed.Laws.{packed_stamp}
-use Rattle.slot_words.specs.packed.Sound.{IsPackOf}
-use Rattle.slot_words.specs.packed.Words.{packed, stamp_in, packed_stamp_of}
+use Rattle.slot_words.specs.packed.{Laws.packed_stamp, Sound.IsPackOf, Words.packed, Words.stamp_in, Words.packed_stamp_of}
 use Rattle.pack_run.specs.Core.{IsLaneWord}
 
 pub only_bank : (turn : ℕ) → turn % 1 ≡ 0

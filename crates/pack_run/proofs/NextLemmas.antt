@@ -1,23 +1,16 @@
 -- Which events a step may have been, and what is short after it.
 use Rattle.std.proofs.Common.{ap, arith, inl, inr, length, refl, subst, sym, ℕ, ◌+◌, ◌<◌, ◌∙◌, ◌≡◌, ◌≤◌}
 use Rattle.logic_four.specs.declared.V4.{V4}
-use Rattle.image_defs.specs.Frames.{image_value}
-use Rattle.image_defs.specs.Places.{IsPort}
-use Rattle.image_defs.specs.declared.image.PortImage.{PortImage}
-use Rattle.event_defs.proofs.lemmas.NextLemmas.{one_next}
-use Rattle.event_defs.proofs.lemmas.PaceLemmas.{same_port}
-use Rattle.event_defs.specs.Next.{IsNext}
+use Rattle.image_defs.specs.{Frames.image_value, Places.IsPort, declared.image.PortImage.PortImage}
+use Rattle.event_defs.proofs.lemmas.{NextLemmas.one_next, PaceLemmas.same_port}
 use Rattle.event_defs.specs.Places.{after_ask, after_put, after_take, after_tell}
-use Rattle.event_defs.specs.declared.place.Action.{Action}
-use Rattle.event_defs.specs.declared.place.Action.TheVariants as action
-use Rattle.event_defs.specs.declared.place.Event.{Event}
 use Rattle.event_defs.specs.declared.place.Event.TheVariants.{Ask, Put, Take, Tell}
-use Rattle.event_defs.specs.declared.place.Place.{Place}
-use Rattle.slot_words.specs.Layout.{progress_word}
-use Rattle.port_run.proofs.lemmas.NextLemmas.{asked_in, asks_again, past_ports}
-use Rattle.slot_words.specs.packed.Laws.{packed_stamp}
+use Rattle.event_defs.specs.{Next.IsNext, declared.place.Action.Action, declared.place.Event.Event, declared.place.Place.Place}
+use Rattle.event_defs.specs.declared.place.Action.TheVariants as action
 use Rattle.slot_words.specs.packed.Passes.{IsFit, IsRunning, PackPassView, one_step}
 use Rattle.slot_words.specs.packed.Words.{packed, stamp_in, packed_stamp_of, stimulus_of, turns_of}
+use Rattle.slot_words.specs.{Layout.progress_word, packed.Laws.packed_stamp}
+use Rattle.port_run.proofs.lemmas.NextLemmas.{asked_in, asks_again, past_ports}
 use Rattle.pack_run.specs.Steps.{AskWaits, IsEvent, IsShort, IsWait, Makes, TakeWaits, word_at}
 
 -- ---- one next event

@@ -2,26 +2,22 @@
 use Rattle.std.proofs.Common.{List, ap, arith, false, inl, inr, length, subst, sym, ℕ, ◌<◌, ◌∙◌, ◌≡◌}
 use Rattle.lane_planes.specs.declared.planes.Planes.{Planes}
 use Rattle.image_defs.specs.declared.image.PortImage.{PortImage}
-use Rattle.event_defs.specs.Next.{IsNext}
 use Rattle.event_defs.specs.Places.{after_ask, after_put, after_take, is_in}
+use Rattle.event_defs.specs.{Next.IsNext, declared.place.Place.Place}
 use Rattle.event_defs.specs.declared.place.Event.TheVariants as event
-use Rattle.event_defs.specs.declared.place.Place.{Place}
-use Rattle.crew_run.specs.declared.stepper.Step.{Step}
-use Rattle.crew_run.specs.declared.stepper.Step.TheVariants.{Done, Moved, NotYet}
+use Rattle.crew_run.specs.declared.stepper.Step.{Step, TheVariants.Done, TheVariants.Moved, TheVariants.NotYet}
 use Rattle.list_laws.proofs.Members.{member_at}
-use Rattle.slot_words.specs.Layout.{progress_word}
+use Rattle.slot_words.specs.packed.Passes.{AreValues, HasLooked, IsFit, IsPut, IsTake, PackPassView, WasSentBefore, one_step}
+use Rattle.slot_words.specs.{Layout.progress_word, packed.Words.HasPlanes, packed.Words.packed, packed.Words.turns_of}
+use Rattle.slot_words.specs.declared.pack_words.words.PackTaken.{PackTaken}
 use Rattle.port_run.proofs.lemmas.NextLemmas.{asked_in}
 use Rattle.pack_walk.specs.Placed.{CanPut, CanTake, HasPut, HasTaken, IsNextOf, IsNextValue, IsReceiving, IsSending, PlacedPack, at_start, lane_action, value_in}
 use Rattle.port_walk.specs.declared.upcoming.Upcoming.{Upcoming}
 use Rattle.port_walk.specs.declared.upcoming.Upcoming.TheVariants as action
-use Rattle.slot_words.specs.packed.Passes.{AreValues, HasLooked, IsFit, IsPut, IsTake, PackPassView, WasSentBefore, one_step}
 use Rattle.slot_words.specs.packed.Passes as pass
-use Rattle.slot_words.specs.packed.Words.{HasPlanes, packed, turns_of}
-use Rattle.slot_words.specs.declared.pack_words.words.PackTaken.{PackTaken}
 use Rattle.slot_words.specs.declared.pack_words.words.PackTaken.TheVariants as taken
-use Rattle.pack_run.specs.Pairs.{AreBegun, placed}
 use Rattle.pack_run.specs.Steps.{Asks, IsStepOf, Looks, word_at}
-use Rattle.pack_run.specs.code.Steps.{IsAnswer, IsNextAction, IsUpcoming}
+use Rattle.pack_run.specs.{Pairs.AreBegun, Pairs.placed, code.Steps.IsAnswer, code.Steps.IsNextAction, code.Steps.IsUpcoming}
 
 -- before the first event the port is at the place of the pass
 pub placed_first : (old : PackPassView) (port : PlacedPack) → AreBegun old port → port ≡ placed old

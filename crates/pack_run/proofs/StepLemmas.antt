@@ -1,19 +1,16 @@
 -- What a step keeps, and what its answer says.
 use Rattle.std.proofs.Common.{Bool, ap, ap₂, arith, if◌then◌else◌, inl, inr, refl, subst, sym, ℕ, ◌+◌, ◌∙◌, ◌≡◌, ◌↔◌}
-use Rattle.event_defs.specs.declared.place.Event.{Event}
 use Rattle.event_defs.specs.declared.place.Event.TheVariants.{Ask, Put, Take, Tell}
-use Rattle.event_defs.specs.declared.place.Place.{Place}
+use Rattle.event_defs.specs.declared.place.{Event.Event, Place.Place}
 use Rattle.crew_run.specs.Steps as step
-use Rattle.crew_run.specs.Steps.{steps_of}
-use Rattle.crew_run.specs.declared.stepper.Step.{Step}
+use Rattle.crew_run.specs.{Steps.steps_of, declared.stepper.Step.Step}
 use Rattle.crew_run.specs.declared.stepper.Step.TheVariants.{Done, Moved, NotYet}
 use Rattle.slot_words.specs.packed.Passes.{BarView, IsFit, IsOf, PackPassView, one_step}
 use Rattle.slot_words.specs.packed.Words.{turns_of}
 use Rattle.pack_run.proofs.NextLemmas.{event_not_short, event_not_wait, wait_short}
-use Rattle.pack_run.specs.Pairs.{HasMadeAll}
-use Rattle.pack_run.specs.Same.{IsSame, Takes}
-use Rattle.port_run.specs.Steps.{ends_turn}
 use Rattle.pack_run.specs.Steps.{IsEvent, IsShort, IsStepOf, IsWait}
+use Rattle.pack_run.specs.{Pairs.HasMadeAll, Same.IsSame, Same.Takes}
+use Rattle.port_run.specs.Steps.{ends_turn}
 
 -- what no step changes, and how many atomic steps it was
 pub record IsNext (old new : PackPassView) (made : ℕ) : Type 0 where

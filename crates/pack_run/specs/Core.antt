@@ -3,25 +3,14 @@ use Rattle.std.specs.Prelude.{List, Some, length, ℕ, ◌*◌, ◌+◌, ◌<◌
 use mathlib.Core.Option.{some}
 use lib.ListN.{get_elem?}
 use Rattle.logic_four.specs.Values.{code_of}
-use Rattle.lane_planes.specs.Lanes.{lane_of}
-use Rattle.lane_planes.specs.declared.planes.Planes.{Planes}
+use Rattle.lane_planes.specs.{Lanes.lane_of, declared.planes.Planes.Planes}
 use Rattle.stim_text.specs.declared.lanes.Lanes.{Lanes}
-use Rattle.image_defs.specs.Places.{IsPort}
-use Rattle.image_defs.specs.declared.image.Image.{Image}
-use Rattle.image_defs.specs.declared.image.LinkOut.{LinkOut}
-use Rattle.image_defs.specs.declared.image.PortImage.{PortImage}
-use Rattle.event_defs.specs.Places.{IsSend}
-use Rattle.event_defs.specs.Sound.{IsSound}
-use Rattle.event_defs.specs.Steps.{CoreState, IsStep, stamp_of}
-use Rattle.event_defs.specs.declared.place.CoreStep.{CoreStep}
-use Rattle.event_defs.specs.declared.place.CoreStep.TheVariants.{Moved}
-use Rattle.event_defs.specs.declared.place.Event.{Event}
-use Rattle.atomic_table.specs.Seated.{TableId}
-use Rattle.atomic_table.specs.Table.{State}
+use Rattle.image_defs.specs.{Places.IsPort, declared.image.Image.Image, declared.image.LinkOut.LinkOut, declared.image.PortImage.PortImage}
+use Rattle.event_defs.specs.{Places.IsSend, Sound.IsSound, Steps.CoreState, Steps.IsStep, Steps.stamp_of, declared.place.CoreStep.CoreStep}
+use Rattle.event_defs.specs.declared.place.{CoreStep.TheVariants.Moved, Event.Event}
+use Rattle.atomic_table.specs.{Seated.TableId, Table.State}
 use Rattle.slot_words.specs.Layout.{progress_in, progress_word, send_word, sent_in, turns_told}
-use Rattle.slot_words.specs.packed.Passes.{PackPassView}
-use Rattle.slot_words.specs.packed.Words.{packed, stimulus_of, turns_of}
-use Rattle.slot_words.specs.declared.rule.Look.{Look}
+use Rattle.slot_words.specs.{packed.Passes.PackPassView, packed.Words.packed, packed.Words.stimulus_of, packed.Words.turns_of, declared.rule.Look.Look}
 use Rattle.slot_words.specs.packed.Sound.{PackKey, PackView}
 
 -- the core's word of a send says in this lane what the packed word says: both are 0 before the first Put, and then

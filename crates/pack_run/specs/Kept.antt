@@ -1,8 +1,7 @@
 -- What holds of the fields of a running packed port.
 use Rattle.std.specs.Prelude.{◌≡◌}
 use Rattle.slot_words.specs.packed.Passes.{PackPassView}
-use Rattle.pack_run.specs.Pairs.{placed}
-use Rattle.pack_run.specs.declared.running.PackRunning.TheInside.{Inside}
+use Rattle.pack_run.specs.{Pairs.placed, declared.running.PackRunning.TheInside.Inside}
 
 abbrev pub view_of : Inside → PackPassView
 view_of a = a.pass

@@ -2,8 +2,7 @@
 use Rattle.std.specs.Prelude.{length, ℕ, ◌+◌, ◌≡◌}
 use Rattle.event_defs.specs.Places.{start}
 use Rattle.pack_walk.specs.Placed.{PlacedPack, at_start}
-use Rattle.slot_words.specs.packed.Passes.{PackPassView}
-use Rattle.slot_words.specs.packed.Words.{turns_of}
+use Rattle.slot_words.specs.packed.{Passes.PackPassView, Words.turns_of}
 
 -- the port at the place of the pass
 abbrev pub placed : PackPassView → PlacedPack

@@ -2,9 +2,8 @@
 use Rattle.std.specs.Prelude.{Bool, ◌≡◌}
 use Rattle.event_defs.specs.declared.place.Event.{Event}
 use Rattle.slot_words.specs.packed.Passes.{BarView, PackPassView}
-use Rattle.pack_run.specs.Pairs.{last_turn}
+use Rattle.pack_run.specs.{Pairs.last_turn, Steps.IsEvent}
 use Rattle.port_run.specs.Steps.{ends_turn}
-use Rattle.pack_run.specs.Steps.{IsEvent}
 
 -- both are of the same packed crossbar, port, image and lanes, with the same last turn
 pub record IsSame (one_bar : BarView) (one : PackPassView) (other_bar : BarView) (other : PackPassView) : Type 0 where

@@ -2,19 +2,16 @@
 -- one word. It is one event in all lanes.
 use Rattle.std.specs.Prelude.{ℕ, ◌+◌, ◌<◌, ◌≡◌, ◌≢◌, ◌≤◌, ◌⊎◌}
 use Rattle.lane_planes.specs.declared.planes.Planes.{Planes}
-use Rattle.image_defs.specs.Places.{IsPort}
-use Rattle.image_defs.specs.declared.image.PortImage.{PortImage}
+use Rattle.image_defs.specs.{Places.IsPort, declared.image.PortImage.PortImage}
 use Rattle.event_defs.specs.Next.{AsksNext, PutsNext, TakesNext, TellsNext}
 use Rattle.event_defs.specs.Places.{after_ask, after_put, after_take, after_tell}
-use Rattle.event_defs.specs.declared.place.Event.{Event}
 use Rattle.event_defs.specs.declared.place.Event.TheVariants.{Ask, Put, Take, Tell}
-use Rattle.event_defs.specs.declared.place.Place.{Place}
-use Rattle.crew_run.specs.declared.stepper.Step.{Step}
-use Rattle.crew_run.specs.declared.stepper.Step.TheVariants.{Done, Moved, NotYet}
-use Rattle.slot_words.specs.Layout.{progress_word, send_word}
-use Rattle.port_run.specs.Steps.{IsSource}
+use Rattle.event_defs.specs.declared.place.{Event.Event, Place.Place}
+use Rattle.crew_run.specs.declared.stepper.Step.{Step, TheVariants.Done, TheVariants.Moved, TheVariants.NotYet}
 use Rattle.slot_words.specs.packed.Passes.{AreValues, IsRunning, PackPassView, WasSentBefore, one_step}
 use Rattle.slot_words.specs.packed.Words.{HasPlanes, packed, stamp_in, packed_stamp_of}
+use Rattle.slot_words.specs.Layout.{progress_word, send_word}
+use Rattle.port_run.specs.Steps.{IsSource}
 use Rattle.pack_run.specs.Pairs.{HasMadeAll}
 
 -- the word of send number i of port p

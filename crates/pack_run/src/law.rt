@@ -4,16 +4,13 @@ ghost use Rattle.std.specs.Prelude.{List, Some, slice_set, true, ℕ, ◌<◌, �
 ghost use mathlib.Core.Option.{some};
 ghost use lib.ListN.{get_elem?};
 ghost use Rattle.limits.specs.declared.TheConstants.{LANES};
-ghost use Rattle.event_defs.specs.Steps.{CoreState};
-ghost use Rattle.event_defs.specs.declared.place.CoreStep.TheVariants.{Done, NotYet};
+ghost use Rattle.event_defs.specs.{Steps.CoreState, declared.place.CoreStep.TheVariants.Done, declared.place.CoreStep.TheVariants.NotYet};
 ghost use Rattle.event_defs.specs.declared.place.Event.{Event};
-ghost use Rattle.atomic_table.specs.Seated.{TableId};
-ghost use Rattle.atomic_table.specs.Table.{Act, State, stepped};
+ghost use Rattle.atomic_table.specs.{Seated.TableId, Table.Act, Table.State, Table.stepped};
 ghost use Rattle.port_run.specs.Core.{is_look};
 ghost use Rattle.slot_words.specs.packed.Sound.{Kept, PackKey, PackView};
 ghost use Rattle.pack_run.specs.Core.{IsCoreEvent, IsCoreStep, IsStateOf, pass_in};
-ghost use Rattle.pack_run.specs.Pairs.{HasMadeAll};
-ghost use Rattle.pack_run.specs.Steps.{IsEvent, IsWait};
+ghost use Rattle.pack_run.specs.{Pairs.HasMadeAll, Steps.IsEvent, Steps.IsWait};
 
 /// A law: each step of a packed port is, in each lane, the step of a core of all turns on a sound state: the same
 /// event, and what it read or wrote; a wait; or none, where all turns are made. Between any two steps of the seats of

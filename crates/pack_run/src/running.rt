@@ -2,15 +2,11 @@
 
 ghost use Rattle.std.specs.Prelude.{MatchOption, length, ◌*◌, ◌<◌, ◌≡◌, ◌≢◌, ◌≤◌};
 ghost use Rattle.limits.specs.declared.TheConstants.{LANES};
-ghost use Rattle.image_defs.specs.Frames.{shown};
-ghost use Rattle.image_defs.specs.Places.{host_of};
+ghost use Rattle.image_defs.specs.{Frames.shown, Places.host_of};
 ghost use Rattle.port_host.specs.Rows.{printed_sources};
 ghost use Rattle.port_walk.specs.declared.upcoming.Upcoming.TheVariants as action;
-ghost use Rattle.slot_words.specs.packed.Passes.{IsFit, IsOf};
-ghost use Rattle.slot_words.specs.packed.Words.{stimulus_of};
-ghost use Rattle.pack_run.specs.Pairs.{AreBegun, last_turn};
-ghost use Rattle.pack_run.specs.Steps.{IsStepOf};
-ghost use Rattle.pack_run.specs.code.Steps.{IsAnswer, IsUpcoming};
+ghost use Rattle.slot_words.specs.packed.{Passes.IsFit, Passes.IsOf, Words.stimulus_of};
+ghost use Rattle.pack_run.specs.{Pairs.AreBegun, Pairs.last_turn, Steps.IsStepOf, code.Steps.IsAnswer, code.Steps.IsUpcoming};
 
 use crew_run::Step;
 use logic_four::V4;

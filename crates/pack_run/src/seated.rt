@@ -18,9 +18,7 @@ pub struct PackSeated<'a> {
 impl<'a> Stepper for PackSeated<'a> {
     ghost use Rattle.std.specs.Prelude.{refl};
     ghost use Rattle.std.proofs.Common.{◌∙◌};
-    ghost use Rattle.pack_run.specs.Pairs.{last_turn};
-    ghost use Rattle.pack_run.specs.Same.{IsSame, Takes};
-    ghost use Rattle.pack_run.specs.Steps.{IsShort};
+    ghost use Rattle.pack_run.specs.{Pairs.last_turn, Same.IsSame, Same.Takes, Steps.IsShort};
 
     ghost same = { λ a b. IsSame a.bar.now a.run b.bar.now b.run };
 

@@ -2,18 +2,13 @@
 use Rattle.std.proofs.Common.{◌≡◌, ◌∙◌, ℕ, ◌+◌, ◌<◌, ◌≤◌, List, length, get_or, set, sym, subst, refl, arith}
 use Rattle.std.proofs.lemmas.List.{length-map, length-set, map-set, get_or-map}
 use Rattle.limits.specs.declared.TheConstants.{LANES}
-use Rattle.logic_four.specs.declared.V4.{V4}
-use Rattle.logic_four.specs.declared.V4.TheVariants.{Undef}
-use Rattle.logic_four.specs.Values.{value_at}
-use Rattle.lane_planes.specs.declared.planes.Planes.{Planes}
-use Rattle.lane_planes.specs.Lanes.{lane_of}
+use Rattle.logic_four.specs.{declared.V4.V4, declared.V4.TheVariants.Undef, Values.value_at}
+use Rattle.lane_planes.specs.{declared.planes.Planes.Planes, Lanes.lane_of}
 use Rattle.image_defs.specs.declared.image.Source.{Source}
-use Rattle.port_bank.specs.Reads.{IsTaken}
+use Rattle.port_bank.specs.{Reads.IsTaken, Packed.PackPortView, Packed.lane_port}
 use Rattle.port_host.specs.code.Rows.{HasPrinted}
 use Rattle.port_host.proofs.RowLemmas.{printed_more}
-use Rattle.port_bank.specs.Packed.{PackPortView, lane_port}
-use Rattle.pack_walk.specs.Cells.{in_lane}
-use Rattle.pack_walk.specs.code.Cells.{HasPrintedAll}
+use Rattle.pack_walk.specs.{Cells.in_lane, code.Cells.HasPrintedAll}
 
 -- no cell is printed
 pub none_printed : (view : PackPortView) (sources : List Source) (start : ℕ) (cells : List Planes) → HasPrintedAll view sources 0 start cells cells

@@ -1,16 +1,9 @@
 -- The cursors of lanes stand at the row of the cycle, or behind all rows.
 use Rattle.std.proofs.Common.{◌≡◌, ◌≢◌, ◌∙◌, ◌⊎◌, inl, inr, ℕ, zero, suc, ◌+◌, ◌<◌, ◌≤◌, List, [], ◌∷◌, ◌++◌, length, drop, set, Some, slice_get, sym, ap, subst, refl, arith}
-use Rattle.std.proofs.lemmas.Bool.{cases_lt}
-use Rattle.std.proofs.lemmas.List.{drop-drop, length_push}
-use Rattle.std.proofs.lemmas.Option.{slice_get_within}
-use Rattle.list_laws.proofs.Places.{at_front, seam_at}
-use Rattle.list_laws.proofs.Ranges.{last_or}
-use Rattle.net_defs.specs.declared.stimulus.Stimulus.{Stimulus}
-use Rattle.net_defs.specs.Time.{cycle_rows}
-use Rattle.net_defs.specs.Valid.{IsValidStimulus}
-use Rattle.port_host.specs.declared.cursor.RowCursor.{RowCursor}
-use Rattle.port_host.specs.Rows.{IsAt}
-use Rattle.port_host.specs.code.Rows.{times_in}
+use Rattle.std.proofs.lemmas.{Bool.cases_lt, List.drop-drop, List.length_push, Option.slice_get_within}
+use Rattle.list_laws.proofs.{Places.at_front, Places.seam_at, Ranges.last_or}
+use Rattle.net_defs.specs.{declared.stimulus.Stimulus.Stimulus, Time.cycle_rows, Valid.IsValidStimulus}
+use Rattle.port_host.specs.{declared.cursor.RowCursor.RowCursor, Rows.IsAt, code.Rows.times_in}
 use Rattle.port_host.proofs.CursorLemmas.{at_row, none_left, row_stays, row_over}
 use Rattle.pack_walk.specs.code.Feeds.{AreAt, AreMoved}
 

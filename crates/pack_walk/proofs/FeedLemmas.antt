@@ -2,20 +2,14 @@
 use Rattle.std.proofs.Common.{◌≡◌, ◌∙◌, inl, inr, ℕ, ◌+◌, ◌-◌, ◌/◌, ◌<◌, List, [], get_or, set, Some, None, slice_get, sym, ap, subst, refl, arith}
 use Rattle.std.proofs.lemmas.Option.{slice_get_within, slice_get-get_or}
 use Rattle.list_laws.proofs.Ranges.{last_or}
-use Rattle.logic_four.specs.declared.V4.{V4}
-use Rattle.logic_four.specs.declared.V4.TheVariants.{Undef}
-use Rattle.logic_four.specs.Values.{value_at}
-use Rattle.net_defs.specs.declared.timing.Timing.{Timing}
+use Rattle.logic_four.specs.{declared.V4.V4, declared.V4.TheVariants.Undef, Values.value_at}
+use Rattle.net_defs.specs.{declared.timing.Timing.Timing, declared.stimulus.Stimulus.Stimulus, Time.cycle_rows}
 use Rattle.net_defs.specs.declared.timing.Mode.TheVariants as mode
 use Rattle.net_defs.specs.declared.timing.Init.TheVariants as init
-use Rattle.net_defs.specs.declared.stimulus.Stimulus.{Stimulus}
-use Rattle.net_defs.specs.Time.{cycle_rows}
 use Rattle.lane_planes.specs.declared.planes.Planes.{Planes}
-use Rattle.stim_text.specs.declared.lanes.Lanes.{Lanes}
-use Rattle.stim_text.specs.Lanes.{own_stimulus, lane_stimulus, AreLanes}
+use Rattle.stim_text.specs.{declared.lanes.Lanes.Lanes, Lanes.own_stimulus, Lanes.lane_stimulus, Lanes.AreLanes}
 use Rattle.stim_text.proofs.lemmas.LaneLemmas.{lane_input}
-use Rattle.port_host.specs.declared.cursor.RowCursor.{RowCursor}
-use Rattle.port_host.specs.Rows.{values_in, IsAt}
+use Rattle.port_host.specs.{declared.cursor.RowCursor.RowCursor, Rows.values_in, Rows.IsAt}
 use Rattle.pack_walk.specs.code.Feeds.{fed, AreAt, AreFed, HaveColumn, IsFed}
 use Rattle.port_host.proofs.CursorLemmas.{row_at}
 use Rattle.pack_walk.proofs.CursorLemmas.{at_set}

@@ -1,42 +1,25 @@
 -- In each lane the packed host keeps what a plain host keeps.
 use Rattle.std.proofs.Common.{◌≡◌, ◌≢◌, ◌∙◌, ℕ, ◌+◌, ◌-◌, ◌*◌, ◌/◌, ◌<◌, ◌≤◌, Bool, true, List, [], length, get_or, sym, ap, subst, refl, arith}
-use Rattle.std.proofs.Math.Nat.{div-le_of_le-mul}
-use Rattle.std.proofs.lemmas.List.{length-map}
-use Rattle.std.proofs.lemmas.Option.{slice_get_within}
+use Rattle.std.proofs.{Math.Nat.div-le_of_le-mul, lemmas.List.length-map, lemmas.Option.slice_get_within}
 use Rattle.limits.specs.declared.TheConstants.{LANES, MAX_CYCLES}
 use Rattle.logic_four.specs.Values.{value_at}
-use Rattle.net_defs.specs.declared.stimulus.Stimulus.{Stimulus}
-use Rattle.net_defs.specs.Time.{cycle_rows, cycle_count}
-use Rattle.image_defs.specs.declared.image.InColumn.{InColumn}
-use Rattle.image_defs.specs.declared.image.Work.TheVariants.{Host}
-use Rattle.image_defs.specs.declared.image.PortImage.{PortImage}
-use Rattle.image_defs.specs.declared.image.Image.{Image}
-use Rattle.image_defs.specs.Places.{Each, host_of, IsPort}
-use Rattle.image_defs.specs.WellFormed.{IsWellFormed}
-use Rattle.image_defs.specs.Frames.{shown}
+use Rattle.net_defs.specs.{declared.stimulus.Stimulus.Stimulus, Time.cycle_rows, Time.cycle_count}
 use Rattle.image_defs.specs.Ports.{at_first, after_end, CanExecute, CanEnd, last_turn, value_in}
-use Rattle.lane_planes.specs.declared.planes.Planes.{Planes}
-use Rattle.lane_planes.specs.Lanes.{lane_of}
-use Rattle.stim_text.specs.declared.lanes.Lanes.{Lanes}
-use Rattle.stim_text.specs.Lanes.{lane_stimulus, longest, AreLanes}
+use Rattle.image_defs.specs.declared.image.{InColumn.InColumn, Work.TheVariants.Host, PortImage.PortImage, Image.Image}
+use Rattle.image_defs.specs.{Places.Each, Places.host_of, Places.IsPort, WellFormed.IsWellFormed, Frames.shown}
+use Rattle.lane_planes.specs.{declared.planes.Planes.Planes, Lanes.lane_of}
+use Rattle.stim_text.specs.{declared.lanes.Lanes.Lanes, Lanes.lane_stimulus, Lanes.longest, Lanes.AreLanes}
 use Rattle.stim_text.proofs.lemmas.LaneLemmas.{lane_valid, lane_columns, lane_cycles}
-use Rattle.port_bank.specs.Flat.{IsWithin}
+use Rattle.port_bank.specs.{Flat.IsWithin, Packed.PackPortView, Packed.lane_port, Packed.InEachLane}
+use Rattle.port_host.specs.Rows.{printed_sources, row_start, HasRoom, IsAt, IsOn}
 use Rattle.port_host.specs.declared.cursor.RowCursor.{RowCursor}
 use Rattle.port_host.specs.declared.port.HostPort.TheInside as plain
 use Rattle.port_host.specs.Kept as plain_host
-use Rattle.port_host.specs.Rows.{printed_sources, row_start, HasRoom, IsAt, IsOn}
 use Rattle.port_host.proofs.HostLemmas as host
-use Rattle.port_bank.specs.Packed.{PackPortView, lane_port, InEachLane}
-use Rattle.pack_walk.specs.Cells.{in_lane}
-use Rattle.pack_walk.specs.code.Cells.{HasPrintedAll}
-use Rattle.pack_walk.specs.code.Feeds.{FeedView, IsFed}
-use Rattle.pack_walk.specs.Ready.{lane_host, IsReady}
-use Rattle.pack_walk.specs.Turns.{cycles_done}
-use Rattle.pack_walk.specs.code.Turns.{turn_at}
-use Rattle.pack_walk.specs.declared.port.PackHost.TheInside.{Inside}
+use Rattle.pack_walk.specs.{Cells.in_lane, code.Cells.HasPrintedAll, code.Feeds.FeedView, code.Feeds.IsFed, Ready.lane_host, Ready.IsReady, Turns.cycles_done}
+use Rattle.pack_walk.specs.{code.Turns.turn_at, declared.port.PackHost.TheInside.Inside}
 use Rattle.port_host.proofs.CursorLemmas.{row_at}
-use Rattle.pack_walk.proofs.CursorLemmas.{cursor_at}
-use Rattle.pack_walk.proofs.FeedLemmas.{fed_padded}
+use Rattle.pack_walk.proofs.{CursorLemmas.cursor_at, FeedLemmas.fed_padded}
 
 -- ---- before the first turn
 

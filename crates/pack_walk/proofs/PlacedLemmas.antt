@@ -2,24 +2,17 @@
 use Rattle.std.proofs.Common.{◌≡◌, ℕ, ◌*◌, ◌<◌, ◌≤◌, List, sym, ap, subst, arith}
 use Rattle.std.proofs.Math.Nat.{min-eq_left}
 use Rattle.limits.specs.declared.TheConstants.{LANES}
-use Rattle.stim_text.specs.declared.lanes.Lanes.{Lanes}
-use Rattle.stim_text.specs.Lanes.{longest, AreLanes}
+use Rattle.stim_text.specs.{declared.lanes.Lanes.Lanes, Lanes.longest, Lanes.AreLanes}
 use Rattle.stim_text.proofs.lemmas.LaneLemmas.{lane_turns, lane_valid}
 use Rattle.net_defs.specs.Valid.{IsValidStimulus}
-use Rattle.image_defs.specs.declared.image.Image.{Image}
-use Rattle.image_defs.specs.declared.image.LinkIn.{LinkIn}
-use Rattle.image_defs.specs.Ports.{at_first, last_turn}
-use Rattle.image_defs.specs.Steps.{timing_of}
+use Rattle.image_defs.specs.{declared.image.Image.Image, declared.image.LinkIn.LinkIn, Ports.at_first, Ports.last_turn, Steps.timing_of}
 use Rattle.port_bank.specs.Packed.{PackPortView, lane_port}
-use Rattle.port_walk.specs.declared.upcoming.Upcoming.{Upcoming}
-use Rattle.port_walk.specs.Stands.{Stand}
+use Rattle.port_walk.specs.{declared.upcoming.Upcoming.Upcoming, Stands.Stand, Walks.Walked, Walks.HasRowRoom}
 use Rattle.port_walk.specs.Stands as stands
-use Rattle.port_walk.specs.Walks.{Walked, HasRowRoom}
 use Rattle.port_walk.specs.Walks as walks
 use Rattle.port_walk.proofs.BlockLemmas.{has_room}
-use Rattle.pack_walk.specs.declared.placed.PackPlaced.TheInside.{Inside}
-use Rattle.pack_walk.specs.Kept.{view_of, IsKept}
 use Rattle.pack_walk.specs.Placed.{PlacedPack, placed, stand_of, value_in, HasPut, HasTaken, IsNextOf}
+use Rattle.pack_walk.specs.{declared.placed.PackPlaced.TheInside.Inside, Kept.view_of, Kept.IsKept}
 
 -- ---- before the first turn
 

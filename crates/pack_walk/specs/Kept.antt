@@ -3,8 +3,7 @@ use Rattle.std.specs.Prelude.{◌≡◌, ◌*◌}
 use Rattle.stim_text.specs.Lanes.{longest}
 use Rattle.image_defs.specs.WellFormed.{IsWellFormed}
 use Rattle.port_walk.specs.Kinds.{rows_of}
-use Rattle.pack_walk.specs.declared.placed.PackPlaced.TheInside.{Inside}
-use Rattle.pack_walk.specs.Placed.{PlacedPack, placed}
+use Rattle.pack_walk.specs.{declared.placed.PackPlaced.TheInside.Inside, Placed.PlacedPack, Placed.placed}
 
 abbrev pub view_of : Inside → PlacedPack
 view_of a = placed a.walk

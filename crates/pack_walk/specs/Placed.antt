@@ -3,24 +3,14 @@
 use Rattle.std.specs.Prelude.{◌≡◌, ℕ, ◌+◌, ◌*◌, ◌<◌, List, [], ◌∷◌, ◌++◌}
 use Rattle.limits.specs.declared.TheConstants.{LANES}
 use Rattle.logic_four.specs.declared.V4.{V4}
-use Rattle.lane_planes.specs.declared.planes.Planes.{Planes}
-use Rattle.lane_planes.specs.Lanes.{lane_of}
-use Rattle.stim_text.specs.declared.lanes.Lanes.{Lanes}
-use Rattle.stim_text.specs.Lanes.{lane_stimulus, longest}
-use Rattle.image_defs.specs.declared.image.LinkIn.{LinkIn}
-use Rattle.image_defs.specs.declared.image.LinkOut.{LinkOut}
-use Rattle.image_defs.specs.declared.image.PortImage.{PortImage}
-use Rattle.image_defs.specs.declared.image.Image.{Image}
-use Rattle.image_defs.specs.Places.{IsPort, host_of}
-use Rattle.image_defs.specs.Frames.{image_value}
-use Rattle.event_defs.specs.declared.place.Place.{Place}
-use Rattle.event_defs.specs.declared.place.Action.{Action}
-use Rattle.event_defs.specs.Next.{IsNext}
+use Rattle.lane_planes.specs.{declared.planes.Planes.Planes, Lanes.lane_of}
+use Rattle.stim_text.specs.{declared.lanes.Lanes.Lanes, Lanes.lane_stimulus, Lanes.longest}
+use Rattle.image_defs.specs.declared.image.{LinkIn.LinkIn, LinkOut.LinkOut, PortImage.PortImage, Image.Image}
+use Rattle.image_defs.specs.{Places.IsPort, Places.host_of, Frames.image_value}
+use Rattle.event_defs.specs.{declared.place.Place.Place, declared.place.Action.Action, Next.IsNext}
 use Rattle.port_bank.specs.Packed.{PackPortView}
-use Rattle.port_walk.specs.declared.upcoming.Upcoming.{Upcoming}
-use Rattle.port_walk.specs.Stands.{Stand, action_of}
+use Rattle.port_walk.specs.{declared.upcoming.Upcoming.Upcoming, Stands.Stand, Stands.action_of, Walks.Walked}
 use Rattle.port_walk.specs.Stands as stands
-use Rattle.port_walk.specs.Walks.{Walked}
 
 -- a packed port of an image with lanes: its turn, the slots whose items it has sent in this turn, and those in
 -- which it has received

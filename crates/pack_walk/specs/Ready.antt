@@ -7,8 +7,7 @@ use Rattle.port_host.specs.declared.cursor.RowCursor.{RowCursor}
 use Rattle.port_host.specs.declared.port.HostPort.TheInside as plain
 use Rattle.port_host.specs.Kept as plain_host
 use Rattle.port_bank.specs.Packed.{PackPortView, lane_port}
-use Rattle.pack_walk.specs.Cells.{in_lane}
-use Rattle.pack_walk.specs.declared.port.PackHost.TheInside.{Inside}
+use Rattle.pack_walk.specs.{Cells.in_lane, declared.port.PackHost.TheInside.Inside}
 
 abbrev pub view_of : Inside → PackPortView
 view_of a = a.bank

@@ -6,8 +6,7 @@ ghost use Rattle.logic_four.specs.Values.{value_at};
 ghost use Rattle.image_defs.specs.Places.{Each};
 ghost use Rattle.port_bank.specs.Flat.{IsWithin};
 ghost use Rattle.port_host.specs.Rows.{row_start};
-ghost use Rattle.pack_walk.specs.Cells.{in_lane};
-ghost use Rattle.pack_walk.specs.code.Cells.{HasPrintedAll};
+ghost use Rattle.pack_walk.specs.{Cells.in_lane, code.Cells.HasPrintedAll};
 
 use image_defs::Source;
 use lane_planes::{Planes, in_all_lanes, lane};

@@ -1,8 +1,7 @@
 //! A packed port of any kind with its place in the turn.
 
 ghost use Rattle.std.specs.Prelude.{◌≡◌, ◌≢◌, ◌<◌, length, IfOk, MatchOption};
-ghost use Rattle.image_defs.specs.Places.{host_of};
-ghost use Rattle.image_defs.specs.WellFormed.{IsWellFormed};
+ghost use Rattle.image_defs.specs.{Places.host_of, WellFormed.IsWellFormed};
 ghost use Rattle.stim_text.specs.Lanes.{AreLanes};
 ghost use Rattle.pack_walk.specs.Placed.{at_start, in_next_turn, last_turn, IsNextOf, CanPut, CanTake, IsEnding, HasPut, HasTaken, IsNextValue, IsHostIn};
 

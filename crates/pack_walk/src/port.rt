@@ -2,16 +2,13 @@
 
 ghost use Rattle.std.specs.Prelude.{ℕ, ◌≡◌, ◌+◌, ◌*◌, ◌<◌, ◌≤◌, length, IfOk, Some};
 ghost use Rattle.limits.specs.declared.TheConstants.{LANES, MAX_CYCLES};
-ghost use Rattle.image_defs.specs.Places.{host_of};
-ghost use Rattle.image_defs.specs.WellFormed.{IsWellFormed};
-ghost use Rattle.image_defs.specs.Frames.{shown};
 ghost use Rattle.image_defs.specs.Ports.{at_first, after_begin, after_execute, after_receive, after_end, value_in, CanBegin, CanExecute, CanReceive, CanEnd};
+ghost use Rattle.image_defs.specs.{Places.host_of, WellFormed.IsWellFormed, Frames.shown};
 ghost use Rattle.lane_planes.specs.Lanes.{lane_of};
 ghost use Rattle.stim_text.specs.Lanes.{lane_stimulus, longest, AreLanes};
 ghost use Rattle.port_host.specs.Rows.{printed_sources};
 ghost use Rattle.port_bank.specs.Packed.{lane_port, InEachLane};
-ghost use Rattle.pack_walk.specs.Turns.{cycles_done};
-ghost use Rattle.pack_walk.specs.code.Turns.{turn_at};
+ghost use Rattle.pack_walk.specs.{Turns.cycles_done, code.Turns.turn_at};
 
 use crate::cells::{cell, keep_row, room, row_start};
 use crate::feed::Feed;

@@ -1,14 +1,10 @@
 -- Lists of numbers in order that grow.
 use Rattle.std.proofs.Common.{◌≡◌, ◌∙◌, inl, inr, ℕ, ◌+◌, ◌<◌, ◌≤◌, List, [], ◌∷◌, ◌++◌, length, get_or, sym, ap, subst, arith}
-use Rattle.std.specs.List.{Contains}
-use Rattle.std.specs.List.Sorted.{IsStrictlyIncreasing}
-use Rattle.std.proofs.lemmas.Bool.{cases_lt}
-use Rattle.std.proofs.lemmas.List.{get_or_append_left, get_or_default, length-append}
-use Rattle.std.proofs.Math.Seq.{get_or-append_seam}
+use Rattle.std.proofs.{lemmas.Bool.cases_lt, lemmas.List.get_or_append_left, lemmas.List.get_or_default, lemmas.List.length-append, Math.Seq.get_or-append_seam}
 use Rattle.std.proofs.lemmas.List.Elements.{Contains-append_left, Contains-push, Contains-push_cases}
+use Rattle.std.specs.List.{Contains, Sorted.IsStrictlyIncreasing}
 use Rattle.list_laws.proofs.Ranges.{last_or}
-use Rattle.plan_defs.specs.Lists.{Lists}
-use Rattle.plan_defs.specs.code.Lists.{ListsBelow}
+use Rattle.plan_defs.specs.{Lists.Lists, code.Lists.ListsBelow}
 
 pub listed_none : (P : ℕ → Type 0) → ListsBelow P 0 []
 listed_none P = record {

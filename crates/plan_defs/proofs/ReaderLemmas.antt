@@ -1,19 +1,12 @@
 -- Readers that are listed one item after another.
 use Rattle.std.proofs.Common.{◌≡◌, ◌≢◌, ◌∙◌, ◌↔◌, inl, inr, ℕ, ◌+◌, ◌-◌, ◌*◌, ◌<◌, ◌≤◌, List, [], ◌∷◌, ◌++◌, length, get_or, sym, ap, subst, arith, Some, slice_get}
+use Rattle.std.proofs.lemmas.{Nat.Bits.bit_at-zero, Option.slice_get_within, Option.get_or_from_slice_get, Option.slice_get-get_or}
+use Rattle.std.proofs.{lemmas.List.get_or_append_left, lemmas.List.length-append, Math.Seq.get_or-append_seam}
 use Rattle.std.specs.Int.{bit_at}
-use Rattle.std.proofs.lemmas.Nat.Bits.{bit_at-zero}
-use Rattle.std.proofs.lemmas.Option.{slice_get_within, get_or_from_slice_get, slice_get-get_or}
-use Rattle.std.proofs.lemmas.List.{get_or_append_left, length-append}
-use Rattle.std.proofs.Math.Seq.{get_or-append_seam}
 use Rattle.list_laws.proofs.Ranges.{last_or}
-use Rattle.plan_defs.specs.declared.bit_rows.BitRows.{BitRows}
-use Rattle.plan_defs.specs.Bits.{HasBit}
-use Rattle.node_defs.specs.declared.items.NodeNet.{NodeNet}
-use Rattle.plan_defs.specs.declared.plan.Homes.{Homes}
-use Rattle.plan_defs.specs.Homes.{home_of}
-use Rattle.plan_defs.specs.Lists.{Lists}
-use Rattle.plan_defs.specs.Readers.{IsReaderList}
+use Rattle.plan_defs.specs.{declared.bit_rows.BitRows.BitRows, Bits.HasBit, declared.plan.Homes.Homes, Homes.home_of, Lists.Lists, Readers.IsReaderList}
 use Rattle.plan_defs.specs.code.UserRows.{AreUsers}
+use Rattle.node_defs.specs.declared.items.NodeNet.{NodeNet}
 
 -- a word that is 0 has none of its bits
 pub word_none : (rows : BitRows) (row w word : ℕ) → word ≡ 0 → ((b : ℕ) → b < 64 → (bit_at word b ≡ 1) ↔ HasBit rows row (64 * w + b)) → (m : ℕ) → 64 * w ≤ m → m < 64 * w + 64 → HasBit rows row m → ⊥

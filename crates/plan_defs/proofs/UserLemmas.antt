@@ -1,22 +1,14 @@
 -- Users that are marked one after another.
 use Rattle.std.proofs.Common.{◌≡◌, ◌∙◌, ◌⊎◌, inl, inr, ℕ, ◌+◌, ◌<◌, List, length, get_or, sym, ap, subst, arith, Some, slice_get}
+use Rattle.std.proofs.lemmas.{Option.slice_get_within, Option.slice_get-get_or, List.get_or_default}
 use Rattle.std.specs.List.{Contains}
-use Rattle.std.proofs.lemmas.Option.{slice_get_within, slice_get-get_or}
-use Rattle.std.proofs.lemmas.List.{get_or_default}
 use Rattle.list_laws.proofs.Ranges.{last_or}
-use Rattle.plan_defs.specs.declared.bit_rows.BitRows.{BitRows}
-use Rattle.plan_defs.specs.Bits.{HasBit, IsShaped, Adds}
-use Rattle.plan_defs.proofs.lemmas.AddLemmas.{adds_both, adds_same}
-use Rattle.node_defs.specs.declared.items.Item.{Item}
-use Rattle.node_defs.specs.declared.items.NodeBlock.{NodeBlock}
-use Rattle.node_defs.specs.declared.items.NodeNet.{NodeNet}
-use Rattle.node_defs.specs.Takes.{Takes, BlockTakes}
-use Rattle.node_defs.specs.WellFormed.{IsWellFormed}
-use Rattle.plan_defs.specs.declared.plan.Homes.{Homes}
 use Rattle.plan_defs.specs.Homes.{AreHomes, home_of, block_home, host_of}
-use Rattle.plan_defs.specs.Readers.{ItemTakes, MemoryTakes, IsUser}
-use Rattle.plan_defs.specs.code.UserRows.{HasPlace, AreUsers}
-use Rattle.plan_defs.proofs.lemmas.PortLemmas.{user_port}
+use Rattle.plan_defs.specs.{declared.bit_rows.BitRows.BitRows, Bits.HasBit, Bits.IsShaped, Bits.Adds, declared.plan.Homes.Homes}
+use Rattle.plan_defs.specs.{Readers.ItemTakes, Readers.MemoryTakes, Readers.IsUser, code.UserRows.HasPlace, code.UserRows.AreUsers}
+use Rattle.plan_defs.proofs.lemmas.{AddLemmas.adds_both, AddLemmas.adds_same, PortLemmas.user_port}
+use Rattle.node_defs.specs.{declared.items.Item.Item, declared.items.NodeBlock.NodeBlock, declared.items.NodeNet.NodeNet, Takes.Takes, Takes.BlockTakes}
+use Rattle.node_defs.specs.WellFormed.{IsWellFormed}
 
 pub place_kept : (a b : BitRows) (P : ℕ → ℕ → Type 0) (row bit : ℕ) → Adds a b P → HasPlace a row bit → HasPlace b row bit
 place_kept a b P row bit adds place = record {

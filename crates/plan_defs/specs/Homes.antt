@@ -1,9 +1,8 @@
 -- Ports, and which homes are homes of these items.
 use Rattle.std.specs.Prelude.{◌≡◌, ℕ, ◌+◌, ◌<◌, ◌≤◌, length, Some, slice_get, slice_index}
 use Rattle.limits.specs.declared.TheConstants.{MAX_LOGIC, MAX_ARRAY, MAX_PORTS}
-use Rattle.node_defs.specs.declared.items.Item.{Item}
 use Rattle.node_defs.specs.declared.items.Item.TheVariants.{Input, BlockBit, Node, Latch}
-use Rattle.node_defs.specs.declared.items.NodeNet.{NodeNet}
+use Rattle.node_defs.specs.declared.items.{Item.Item, NodeNet.NodeNet}
 use Rattle.plan_defs.specs.declared.plan.Homes.{Homes}
 
 -- the host comes after the logic ports and the array ports

@@ -2,16 +2,11 @@
 -- nodes in turn over the logic ports, past those that are full.
 use Rattle.std.specs.Prelude.{◌≡◌, ℕ, ◌+◌, ◌-◌, ◌*◌, ◌%◌, ◌^◌, ◌<◌, ◌≤◌, ◌==◌, if◌then◌else◌, List, length, Option, Some, None, slice_get, slice_index}
 use Rattle.std.specs.List.{sum_by, range_with_len}
-use Rattle.machine_text.specs.declared.machine.Machine.{Machine}
-use Rattle.machine_text.specs.declared.machine.Limited.TheVariants.{Nodes, Bits}
+use Rattle.machine_text.specs.declared.machine.{Machine.Machine, Limited.TheVariants.Nodes, Limited.TheVariants.Bits}
 use Rattle.machine_text.specs.Limits.{limit_at}
-use Rattle.node_defs.specs.declared.items.Item.{Item}
 use Rattle.node_defs.specs.declared.items.Item.TheVariants.{Input, BlockBit, Node, Latch}
-use Rattle.node_defs.specs.declared.items.NodeBlock.{NodeBlock}
-use Rattle.node_defs.specs.declared.items.NodeNet.{NodeNet}
-use Rattle.plan_defs.specs.declared.plan.Homes.{Homes}
-use Rattle.plan_defs.specs.Homes.{host_of, home_of, block_home}
-use Rattle.plan_defs.specs.Lists.{IsLeastFree}
+use Rattle.node_defs.specs.declared.items.{Item.Item, NodeBlock.NodeBlock, NodeNet.NodeNet}
+use Rattle.plan_defs.specs.{declared.plan.Homes.Homes, Homes.host_of, Homes.home_of, Homes.block_home, Lists.IsLeastFree}
 
 -- the bits of a memory, given by its number: 2^m words of n bits
 abbrev pub bits_of : NodeNet → ℕ → ℕ

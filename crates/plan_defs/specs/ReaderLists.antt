@@ -1,9 +1,7 @@
 -- The readers of every item.
 use Rattle.std.specs.Prelude.{◌≡◌, ℕ, List, length, Some, slice_get}
 use Rattle.node_defs.specs.declared.items.NodeNet.{NodeNet}
-use Rattle.plan_defs.specs.declared.plan.Homes.{Homes}
-use Rattle.plan_defs.specs.declared.readers.Readers.{Readers}
-use Rattle.plan_defs.specs.Readers.{IsReaderList}
+use Rattle.plan_defs.specs.{declared.plan.Homes.Homes, declared.readers.Readers.Readers, Readers.IsReaderList}
 
 -- one list for each item, in item order: its readers
 pub record AreReaders (nodes : NodeNet) (homes : Homes) (readers : Readers) : Type 0 where

@@ -1,12 +1,7 @@
 -- The ports that read an item.
 use Rattle.std.specs.Prelude.{◌≡◌, ◌≢◌, ◌⊎◌, ℕ, List, Contains, Some, slice_get}
-use Rattle.node_defs.specs.declared.items.Item.{Item}
-use Rattle.node_defs.specs.declared.items.NodeBlock.{NodeBlock}
-use Rattle.node_defs.specs.declared.items.NodeNet.{NodeNet}
-use Rattle.node_defs.specs.Takes.{Takes, BlockTakes}
-use Rattle.plan_defs.specs.declared.plan.Homes.{Homes}
-use Rattle.plan_defs.specs.Homes.{home_of, block_home, host_of}
-use Rattle.plan_defs.specs.Lists.{Lists}
+use Rattle.node_defs.specs.{declared.items.Item.Item, declared.items.NodeBlock.NodeBlock, declared.items.NodeNet.NodeNet, Takes.Takes, Takes.BlockTakes}
+use Rattle.plan_defs.specs.{declared.plan.Homes.Homes, Homes.home_of, Homes.block_home, Homes.host_of, Lists.Lists}
 
 -- an item at the port takes item i
 pub record ItemTakes (nodes : NodeNet) (homes : Homes) (i port : ℕ) : Type 0 where

@@ -1,13 +1,7 @@
 -- The first-fit plan: each item, in its order, has the least slot that nothing before it rules out.
 use Rattle.std.specs.Prelude.{◌≡◌, ◌⊎◌, ℕ, ◌+◌, ◌<◌, ◌≤◌, List, length, max, fold, Some, slice_get, slice_index}
-use Rattle.node_defs.specs.declared.items.Item.{Item}
-use Rattle.node_defs.specs.declared.items.NodeNet.{NodeNet}
-use Rattle.node_defs.specs.Takes.{Awaits}
-use Rattle.plan_defs.specs.declared.plan.Homes.{Homes}
-use Rattle.plan_defs.specs.declared.plan.Plan.{Plan}
-use Rattle.plan_defs.specs.Homes.{home_of}
-use Rattle.plan_defs.specs.Lists.{IsLeastFree}
-use Rattle.plan_defs.specs.Readers.{IsReader}
+use Rattle.node_defs.specs.{declared.items.Item.Item, declared.items.NodeNet.NodeNet, Takes.Awaits}
+use Rattle.plan_defs.specs.{declared.plan.Homes.Homes, declared.plan.Plan.Plan, Homes.home_of, Lists.IsLeastFree, Readers.IsReader}
 
 -- the slot of an item, given by its number
 abbrev pub slot_of : List ℕ → ℕ → ℕ

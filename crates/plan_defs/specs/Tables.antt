@@ -1,15 +1,8 @@
 -- The different tables that a port's nodes use, and when a plan fits a machine.
 use Rattle.std.specs.Prelude.{◌≡◌, ℕ, ◌<◌, ◌≤◌, Some, slice_get}
-use Rattle.machine_text.specs.declared.machine.Machine.{Machine}
-use Rattle.machine_text.specs.declared.machine.Limited.TheVariants.{Functions}
-use Rattle.machine_text.specs.Limits.{limit_at}
-use Rattle.node_defs.specs.declared.items.Feeds.{Feeds}
-use Rattle.node_defs.specs.declared.items.Item.TheVariants.{Node}
-use Rattle.node_defs.specs.declared.items.NodeNet.{NodeNet}
-use Rattle.plan_defs.specs.declared.plan.Homes.{Homes}
-use Rattle.plan_defs.specs.declared.plan.Plan.{Plan}
-use Rattle.plan_defs.specs.Homes.{home_of}
-use Rattle.plan_defs.specs.Lists.{Counts}
+use Rattle.machine_text.specs.{declared.machine.Machine.Machine, declared.machine.Limited.TheVariants.Functions, Limits.limit_at}
+use Rattle.node_defs.specs.declared.items.{Feeds.Feeds, Item.TheVariants.Node, NodeNet.NodeNet}
+use Rattle.plan_defs.specs.{declared.plan.Homes.Homes, declared.plan.Plan.Plan, Homes.home_of, Lists.Counts}
 
 -- a node at the port uses the table of this number
 pub record UsesTable (nodes : NodeNet) (homes : Homes) (port table : ℕ) : Type 0 where

@@ -3,17 +3,9 @@
 
 ghost use Rattle.std.specs.Prelude.{◌≡◌, ◌<◌, ◌≤◌, ℕ, length};
 ghost use Rattle.limits.specs.declared.TheConstants.{MAX_NODES};
-ghost use Rattle.net_defs.specs.declared.netlist.Netlist.{Netlist};
-ghost use Rattle.net_defs.specs.declared.timing.Timing.{Timing};
-ghost use Rattle.net_defs.specs.Valid.{IsValid};
-ghost use Rattle.node_defs.specs.declared.items.NodeNet.{NodeNet};
-ghost use Rattle.node_defs.specs.Order.{AreItems};
-ghost use Rattle.node_defs.specs.WellFormed.{IsWellFormed};
-ghost use Rattle.plan_defs.specs.declared.plan.Homes.{Homes};
-ghost use Rattle.plan_defs.specs.declared.plan.Plan.{Plan};
-ghost use Rattle.plan_defs.specs.Homes.{home_of};
-ghost use Rattle.plan_defs.specs.Picks.{node_count};
-ghost use Rattle.plan_defs.specs.Readers.{IsReader};
+ghost use Rattle.net_defs.specs.{declared.netlist.Netlist.Netlist, declared.timing.Timing.Timing, Valid.IsValid};
+ghost use Rattle.node_defs.specs.{declared.items.NodeNet.NodeNet, Order.AreItems, WellFormed.IsWellFormed};
+ghost use Rattle.plan_defs.specs.{declared.plan.Homes.Homes, declared.plan.Plan.Plan, Homes.home_of, Picks.node_count, Readers.IsReader};
 ghost use Rattle.plan_defs.specs.Slots.{slot_of, IsFirstFitPlan};
 
 /// A law: no port sends twice in a slot. Two items of one slot at one home are one item. It does

@@ -1,11 +1,8 @@
 //! The ports that read each item.
 
 ghost use Rattle.std.specs.Prelude.{◌≡◌, ◌≢◌, ◌+◌, ◌*◌, ◌<◌, ◌≤◌, ◌∷◌, ◌++◌, IfOk, OnOk, length, Some, slice_get, slice_index_or};
-ghost use Rattle.plan_defs.specs.Bits.{HasBit};
+ghost use Rattle.plan_defs.specs.{Bits.HasBit, Homes.AreHomes, Lists.Lists, code.Lists.ListsBelow};
 ghost use Rattle.node_defs.specs.WellFormed.{IsWellFormed};
-ghost use Rattle.plan_defs.specs.Homes.{AreHomes};
-ghost use Rattle.plan_defs.specs.Lists.{Lists};
-ghost use Rattle.plan_defs.specs.code.Lists.{ListsBelow};
 
 use crate::BitRows;
 use crate::plan::Homes;

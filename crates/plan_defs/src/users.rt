@@ -1,12 +1,9 @@
 //! The ports that use each item, as rows of bits.
 
 ghost use Rattle.std.specs.Prelude.{◌≡◌, ℕ, ◌<◌, Contains, IfOk};
-ghost use Rattle.plan_defs.specs.Bits.{Adds};
+ghost use Rattle.plan_defs.specs.{Bits.Adds, Homes.AreHomes, Readers.ItemTakes, Readers.MemoryTakes, code.UserRows.HasPlace, code.UserRows.AreUsers};
 ghost use Rattle.node_defs.specs.Takes.{FeedTakes, IsOneOf, Takes, BlockTakes};
 ghost use Rattle.node_defs.specs.WellFormed.{IsWellFormed};
-ghost use Rattle.plan_defs.specs.Homes.{AreHomes};
-ghost use Rattle.plan_defs.specs.Readers.{ItemTakes, MemoryTakes};
-ghost use Rattle.plan_defs.specs.code.UserRows.{HasPlace, AreUsers};
 
 use crate::BitRows;
 use crate::plan::Homes;

@@ -1,30 +1,16 @@
 -- What is counted over a plan, one item, memory and receipt after another.
 use Rattle.std.proofs.Common.{◌≡◌, ◌∙◌, inl, inr, ℕ, ◌+◌, ◌*◌, ◌<◌, ◌≤◌, List, [], ◌++◌, length, take, map, get_or, set, false, sym, ap, arith, eq-eqb, Some, slice_get}
-use Rattle.std.specs.Prelude.{◌==◌}
-use Rattle.std.specs.List.{Contains, count_by, flat_map, range_with_len}
-use Rattle.std.proofs.lemmas.Bool.{cases_eq, cases_Bool, eqb-true}
 use Rattle.std.proofs.lemmas.List.{get_or-set_same, get_or-set_other, length-map, get_or_default, flat_map_more}
-use Rattle.std.proofs.lemmas.List.Kept.{AllPairs-from_increasing}
-use Rattle.std.proofs.lemmas.List.Sums.{count_by_more_yes, count_by_more_no}
-use Rattle.std.proofs.lemmas.Option.{slice_get_within, slice_get-get_or}
-use Rattle.std.proofs.lemmas.Option.{slice_get_cases}
-use Rattle.list_laws.proofs.Members.{map_at}
-use Rattle.list_laws.proofs.Ranges.{range_next}
-use Rattle.node_defs.specs.declared.items.NodeNet.{NodeNet}
-use Rattle.node_defs.specs.WellFormed.{IsWellFormed}
-use Rattle.plan_defs.specs.declared.plan.Homes.{Homes}
-use Rattle.plan_defs.specs.declared.switch.Receipt.{Receipt}
-use Rattle.plan_defs.specs.Homes.{AreHomes, ports_of}
-use Rattle.plan_defs.specs.Lists.{Counts}
-use Rattle.plan_defs.specs.Picks.{bits_of, bits_before}
-use Rattle.plan_defs.specs.Readers.{IsReaderList}
-use Rattle.plan_defs.specs.declared.readers.Readers.{Readers}
-use Rattle.plan_defs.specs.declared.switch.PortLinks.{PortLinks}
-use Rattle.plan_defs.specs.declared.switch.Switch.{Switch}
-use Rattle.plan_defs.specs.ReaderLists.{AreReaders}
-use Rattle.plan_defs.specs.Switches.{AreReceipts, IsSwitch}
-use Rattle.plan_defs.proofs.lemmas.CountLemmas.{few_below}
-use Rattle.plan_defs.proofs.lemmas.PortLemmas.{reader_port}
+use Rattle.std.proofs.lemmas.{Bool.cases_eq, Bool.cases_Bool, Bool.eqb-true, List.Kept.AllPairs-from_increasing}
+use Rattle.std.proofs.lemmas.{List.Sums.count_by_more_yes, List.Sums.count_by_more_no, Option.slice_get_within, Option.slice_get-get_or, Option.slice_get_cases}
+use Rattle.std.specs.List.{Contains, count_by, flat_map, range_with_len}
+use Rattle.std.specs.Prelude.{◌==◌}
+use Rattle.list_laws.proofs.{Members.map_at, Ranges.range_next}
+use Rattle.node_defs.specs.{declared.items.NodeNet.NodeNet, WellFormed.IsWellFormed}
+use Rattle.plan_defs.specs.{declared.plan.Homes.Homes, declared.switch.Receipt.Receipt, Homes.AreHomes, Homes.ports_of, Lists.Counts}
+use Rattle.plan_defs.specs.{Picks.bits_of, Picks.bits_before, Readers.IsReaderList, declared.readers.Readers.Readers, declared.switch.PortLinks.PortLinks}
+use Rattle.plan_defs.specs.{declared.switch.Switch.Switch, ReaderLists.AreReaders, Switches.AreReceipts, Switches.IsSwitch}
+use Rattle.plan_defs.proofs.lemmas.{CountLemmas.few_below, PortLemmas.reader_port}
 use Rattle.home_pick.proofs.FillLemmas.{bits_at, bits_more, at_same, at_other}
 use Rattle.plan_text.specs.Counted.{Receives}
 

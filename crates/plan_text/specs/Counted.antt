@@ -2,12 +2,7 @@
 use Rattle.std.specs.Prelude.{◌≡◌, ℕ, ◌+◌, ◌<◌, ◌==◌, List, [], length, count_by, slice_index, slice_index_or}
 use Rattle.std.specs.List.{sum_by, range_with_len}
 use Rattle.node_defs.specs.declared.items.NodeNet.{NodeNet}
-use Rattle.plan_defs.specs.declared.plan.Homes.{Homes}
-use Rattle.plan_defs.specs.Homes.{ports_of}
-use Rattle.plan_defs.specs.Lists.{Counts}
-use Rattle.plan_defs.specs.Picks.{bits_before}
-use Rattle.plan_defs.specs.Readers.{IsReader, IsReaderList}
-use Rattle.plan_defs.specs.Slots.{slot_of}
+use Rattle.plan_defs.specs.{declared.plan.Homes.Homes, Homes.ports_of, Lists.Counts, Picks.bits_before, Readers.IsReader, Readers.IsReaderList, Slots.slot_of}
 use Rattle.plan_defs.specs.Tables.{UsesTables}
 use Rattle.plan_text.specs.declared.figures.Figures.{Figures}
 

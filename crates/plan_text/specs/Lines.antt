@@ -1,14 +1,9 @@
 -- The lines of a report.
 use Rattle.std.specs.Prelude.{ℕ, ◌-◌, List, [], ◌++◌, Option, Some, None, nat_lt, if◌then◌else◌, codes, decimal, length, slice_get, slice_index, slice_index_or}
 use Rattle.std.specs.List.{flat_map, range_with_len}
-use Rattle.net_defs.specs.declared.netlist.Netlist.{Netlist}
-use Rattle.net_defs.specs.Canonical.{name_of}
-use Rattle.node_defs.specs.declared.items.ItemName.{ItemName}
-use Rattle.node_defs.specs.declared.items.NodeNet.{NodeNet}
-use Rattle.plan_defs.specs.declared.plan.Homes.{Homes}
-use Rattle.plan_defs.specs.declared.plan.Plan.{Plan}
-use Rattle.plan_defs.specs.Homes.{home_of, host_of, ports_of}
-use Rattle.plan_defs.specs.Slots.{slot_of}
+use Rattle.net_defs.specs.{declared.netlist.Netlist.Netlist, Canonical.name_of}
+use Rattle.node_defs.specs.declared.items.{ItemName.ItemName, NodeNet.NodeNet}
+use Rattle.plan_defs.specs.{declared.plan.Homes.Homes, declared.plan.Plan.Plan, Homes.home_of, Homes.host_of, Homes.ports_of, Slots.slot_of}
 use Rattle.plan_text.specs.declared.figures.Figures.{Figures}
 
 -- `l0` is the first logic port, `a0` the first array port, `h` the host

@@ -2,11 +2,8 @@
 use Rattle.std.specs.Prelude.{◌≡◌, ℕ, List}
 use Rattle.net_defs.specs.declared.netlist.Netlist.{Netlist}
 use Rattle.node_defs.specs.declared.items.NodeNet.{NodeNet}
-use Rattle.plan_defs.specs.declared.plan.Homes.{Homes}
-use Rattle.plan_defs.specs.declared.plan.Plan.{Plan}
-use Rattle.plan_text.specs.declared.figures.Figures.{Figures}
-use Rattle.plan_text.specs.Counted.{AreFigures}
-use Rattle.plan_text.specs.Lines.{report_text}
+use Rattle.plan_defs.specs.declared.plan.{Homes.Homes, Plan.Plan}
+use Rattle.plan_text.specs.{declared.figures.Figures.Figures, Counted.AreFigures, Lines.report_text}
 
 -- the text is the report of the plan of these items of the netlist at these homes
 pub record IsReport (net : Netlist) (nodes : NodeNet) (homes : Homes) (plan : Plan) (text : List ℕ) : Type 0 where

@@ -2,8 +2,7 @@
 
 ghost use Rattle.std.specs.Prelude.{◌≡◌, ◌+◌, ◌<◌, ◌==◌, ◌^◌, ℕ, IfOk, length, map, count_by, slice_index, slice_set};
 ghost use Rattle.node_defs.specs.WellFormed.{IsWellFormed};
-ghost use Rattle.plan_defs.specs.Homes.{AreHomes, ports_of};
-ghost use Rattle.plan_defs.specs.Switches.{IsSwitch};
+ghost use Rattle.plan_defs.specs.{Homes.AreHomes, Homes.ports_of, Switches.IsSwitch};
 ghost use Rattle.plan_text.specs.Counted.{bits_at, AreFigures, HasPorts};
 
 use home_pick::block_bits;

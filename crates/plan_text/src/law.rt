@@ -3,10 +3,8 @@
 ghost use Rattle.std.specs.Prelude.{◌≡◌, ℕ, List};
 ghost use Rattle.net_defs.specs.declared.netlist.Netlist.{Netlist};
 ghost use Rattle.node_defs.specs.declared.items.NodeNet.{NodeNet};
-ghost use Rattle.plan_defs.specs.declared.plan.Homes.{Homes};
-ghost use Rattle.plan_defs.specs.declared.plan.Plan.{Plan};
-ghost use Rattle.plan_text.specs.Counted.{AreCrossings};
-ghost use Rattle.plan_text.specs.Reports.{IsReport};
+ghost use Rattle.plan_defs.specs.declared.plan.{Homes.Homes, Plan.Plan};
+ghost use Rattle.plan_text.specs.{Counted.AreCrossings, Reports.IsReport};
 
 /// A law: a plan has one report. It does nothing.
 pub fn one_report()

@@ -3,8 +3,8 @@
 ghost use Rattle.std.specs.Prelude.{◌≡◌, ◌+◌, ◌<◌, ◌^◌, ◌++◌, codes, decimal, OnOk, [], length, slice_index_or};
 ghost use Rattle.std.specs.List.{flat_map, range_with_len};
 ghost use Rattle.plan_defs.specs.Homes.{ports_of};
-ghost use Rattle.plan_text.specs.Counted.{HasPorts};
 ghost use Rattle.plan_text.specs.Lines.{port_name, port_part, port_line, helper_part, item_name, item_line};
+ghost use Rattle.plan_text.specs.Counted.{HasPorts};
 
 use crate::figures::Figures;
 use itoa::Buffer;

@@ -2,12 +2,8 @@
 
 ghost use Rattle.std.specs.Prelude.{◌≡◌, ◌<◌, ◌^◌, IfOk, length};
 ghost use Rattle.node_defs.specs.WellFormed.{IsWellFormed};
-ghost use Rattle.plan_defs.specs.Homes.{AreHomes, ports_of};
-ghost use Rattle.plan_defs.specs.Slots.{IsFirstFitPlan};
-ghost use Rattle.plan_defs.specs.Switches.{IsSwitch};
-ghost use Rattle.plan_text.specs.Counted.{HasPorts};
-ghost use Rattle.plan_text.specs.Lines.{report_text};
-ghost use Rattle.plan_text.specs.Reports.{IsReport};
+ghost use Rattle.plan_defs.specs.{Homes.AreHomes, Homes.ports_of, Slots.IsFirstFitPlan, Switches.IsSwitch};
+ghost use Rattle.plan_text.specs.{Counted.HasPorts, Lines.report_text, Reports.IsReport};
 
 use crate::figures::Figures;
 use crate::lines::{push_count, push_items, push_ports};

@@ -1,33 +1,21 @@
 -- An array processor keeps the words and the answers of its memories.
 use Rattle.std.proofs.Common.{◌≡◌, ◌∙◌, ℕ, ◌-◌, ◌<◌, ◌≤◌, Bool, true, false, if◌then◌else◌, List, length, map, get_or, slice_get, ◌==◌, Option, Some, None, sym, ap, subst, refl, arith}
-use Rattle.std.proofs.Math.Nat.{add-sub_cancel}
-use Rattle.std.proofs.lemmas.Bool.{cond-true, cond-false}
+use Rattle.std.proofs.{Math.Nat.add-sub_cancel, lemmas.Bool.cond-true, lemmas.Bool.cond-false}
 use Rattle.std.proofs.lemmas.Option.{slice_get_within, slice_get-get_or, get_or_from_slice_get}
 use Rattle.list_laws.proofs.Places.{within_some}
-use Rattle.logic_four.specs.declared.V4.{V4}
-use Rattle.logic_four.specs.Values.{value_at}
-use Rattle.logic_four.specs.Memory.{memory_act, MemoryAct}
-use Rattle.net_defs.specs.declared.stimulus.Stimulus.{Stimulus}
-use Rattle.net_defs.specs.Time.{is_edge, initial_value}
-use Rattle.net_defs.specs.Steps.{registered}
-use Rattle.image_defs.specs.declared.image.Source.{Source}
-use Rattle.image_defs.specs.declared.image.BlockWork.{BlockWork}
-use Rattle.image_defs.specs.declared.image.OutBit.{OutBit}
-use Rattle.image_defs.specs.declared.image.Work.TheVariants.{Array}
-use Rattle.image_defs.specs.declared.image.PortImage.{PortImage}
-use Rattle.image_defs.specs.declared.image.Image.{Image}
+use Rattle.logic_four.specs.{declared.V4.V4, Values.value_at, Memory.memory_act, Memory.MemoryAct}
+use Rattle.net_defs.specs.{declared.stimulus.Stimulus.Stimulus, Time.is_edge, Time.initial_value, Steps.registered}
 use Rattle.image_defs.specs.Places.{Each, blocks_of, IsPort, IsItemIn, IsBlockOf}
 use Rattle.image_defs.specs.WellFormed.{IsWellFormed, IsPast, IsBlock, IsBit, IsWork}
 use Rattle.image_defs.specs.Steps.{value_of_member, past_value, block_act, block_bit, block_words_after, bit_value, item_value, timing_of}
-use Rattle.image_defs.specs.Frames.{frame}
 use Rattle.image_defs.specs.Ports.{PortView, CanExecute, at_first, after_begin, after_end, value_in}
-use Rattle.image_defs.proofs.lemmas.PlaceLemmas.{at_map}
-use Rattle.image_defs.proofs.lemmas.ValueLemmas.{value_meets}
+use Rattle.image_defs.specs.declared.image.{Source.Source, BlockWork.BlockWork, OutBit.OutBit, Work.TheVariants.Array, PortImage.PortImage, Image.Image}
+use Rattle.image_defs.specs.Frames.{frame}
+use Rattle.image_defs.proofs.lemmas.{PlaceLemmas.at_map, ValueLemmas.value_meets}
 use Rattle.port_bank.specs.Reads.{IsHeld, now_in, past_in}
 use Rattle.port_bank.proofs.lemmas.TurnLemmas.{turn_meets, item_meets, there_within}
-use Rattle.port_array.specs.Acts.{LaneMemory, AreFit}
 use Rattle.port_array.specs.code.Acts.{act_at, IsPastAt, ReadsPast, HasFewBits, AreFirst, Acted, AreActed, FitsBit, answered_bit}
-use Rattle.port_array.specs.Kept.{words_turn, LaneArray, IsReady}
+use Rattle.port_array.specs.{Acts.LaneMemory, Acts.AreFit, Kept.words_turn, Kept.LaneArray, Kept.IsReady}
 
 -- ---- the work of an array processor
 

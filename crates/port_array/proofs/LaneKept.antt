@@ -2,23 +2,16 @@
 use Rattle.std.proofs.Common.{◌≡◌, ℕ, ◌+◌, ◌<◌, true, false, List, length, get_or, sym, ap, subst}
 use Rattle.std.proofs.lemmas.Option.{slice_get_within}
 use Rattle.net_defs.specs.Time.{is_edge, initial_value}
-use Rattle.image_defs.specs.declared.image.OutBit.{OutBit}
-use Rattle.image_defs.specs.declared.image.Work.TheVariants.{Array}
-use Rattle.image_defs.specs.declared.image.PortImage.{PortImage}
-use Rattle.image_defs.specs.declared.image.Image.{Image}
-use Rattle.image_defs.specs.Places.{IsPort}
-use Rattle.image_defs.specs.WellFormed.{IsWellFormed}
 use Rattle.image_defs.specs.Ports.{View, lane_port, at_first, after_begin, after_execute, after_receive, after_end, CanExecute, value_in}
+use Rattle.image_defs.specs.declared.image.{OutBit.OutBit, Work.TheVariants.Array, PortImage.PortImage, Image.Image}
+use Rattle.image_defs.specs.{Places.IsPort, WellFormed.IsWellFormed}
 use Rattle.port_bank.specs.declared.word.Word as word
-use Rattle.port_bank.specs.Lanes.{InEach}
-use Rattle.port_bank.specs.Reads.{IsHeld}
-use Rattle.port_bank.specs.Words.{InEachLane, AreValues}
+use Rattle.port_bank.specs.{Lanes.InEach, Reads.IsHeld, Words.InEachLane, Words.AreValues}
 use Rattle.port_bank.proofs.lemmas.LaneLemmas.{in_each, in_lane}
-use Rattle.port_array.specs.declared.memory.MemoryState.{MemoryState}
-use Rattle.port_array.specs.code.Acts.{answered_bit, FitsBit}
-use Rattle.port_array.specs.Kept as one_kept
 use Rattle.port_array.specs.Lanes.{Parts, lane_memories, lane_array, AreWhole, IsReady}
+use Rattle.port_array.specs.{declared.memory.MemoryState.MemoryState, code.Acts.answered_bit, code.Acts.FitsBit}
 use Rattle.port_array.specs.code.Lanes.{ReadPast, AreFirst, HaveActed}
+use Rattle.port_array.specs.Kept as one_kept
 use Rattle.port_array.proofs.KeptLemmas as plain
 use Rattle.port_array.proofs.LaneMemories.{lane_fit, lane_first}
 

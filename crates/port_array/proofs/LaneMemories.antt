@@ -1,26 +1,20 @@
 -- The memories of all lanes, one by one and lane by lane.
 use Rattle.std.proofs.Common.{◌≡◌, ◌≢◌, ◌∙◌, inl, inr, ℕ, ◌+◌, ◌<◌, List, [], ◌∷◌, ◌++◌, length, replicate, get_or, set, slice_get, Some, sym, ap, subst, arith}
-use Rattle.std.specs.Option.{option_map}
-use Rattle.std.proofs.lemmas.Bool.{cases_eq}
 use Rattle.std.proofs.lemmas.List.{length-map, length-set, length-replicate, length_push, get_or-replicate, map-set}
-use Rattle.std.proofs.lemmas.Option.{slice_get-map, slice_get_within}
-use Rattle.list_laws.proofs.Places.{one_there, at_front, seam_at}
-use Rattle.list_laws.proofs.Ranges.{last_or}
-use Rattle.logic_four.specs.declared.V4.{V4}
-use Rattle.logic_four.specs.Memory.{initial_words, HasShape}
+use Rattle.std.proofs.lemmas.{Bool.cases_eq, Option.slice_get-map, Option.slice_get_within}
+use Rattle.std.specs.Option.{option_map}
+use Rattle.list_laws.proofs.{Places.one_there, Places.at_front, Places.seam_at, Ranges.last_or}
+use Rattle.logic_four.specs.{declared.V4.V4, Memory.initial_words, Memory.HasShape}
 use Rattle.logic_four.proofs.lemmas.MemoryLemmas.{first_shape}
-use Rattle.image_defs.specs.declared.image.BlockWork.{BlockWork}
-use Rattle.image_defs.specs.Ports.{View, lane_port}
+use Rattle.image_defs.specs.{declared.image.BlockWork.BlockWork, Ports.View, Ports.lane_port}
 use Rattle.image_defs.proofs.lemmas.PlaceLemmas.{at_map}
 use Rattle.port_bank.specs.declared.word.Word as word
 use Rattle.port_bank.specs.Places.{lane_values}
-use Rattle.port_array.specs.declared.memory.MemoryState.{MemoryState}
-use Rattle.port_array.specs.Acts.{LaneMemory}
-use Rattle.port_array.specs.Acts as plain
 use Rattle.port_array.specs.Lanes.{lane_memory, lane_memories, IsWhole, AreWhole}
-use Rattle.port_array.specs.code.Acts as plain_code
-use Rattle.port_array.specs.code.Acts.{act_at, Acted, AreActed}
 use Rattle.port_array.specs.code.Lanes.{IsFirst, Stays, HasActed, AreFirst, HaveActed}
+use Rattle.port_array.specs.{declared.memory.MemoryState.MemoryState, Acts.LaneMemory, code.Acts.act_at, code.Acts.Acted, code.Acts.AreActed}
+use Rattle.port_array.specs.Acts as plain
+use Rattle.port_array.specs.code.Acts as plain_code
 use Rattle.port_array.proofs.MemoryLemmas.{set_place, acted_more}
 
 module _ {W P F S : Type 0} (w : word.Ghosts W P F S) where

@@ -1,14 +1,10 @@
 -- The memories of a port, one by one.
 use Rattle.std.proofs.Common.{◌≡◌, ◌≢◌, ◌∙◌, ◌⊎◌, inl, inr, ℕ, ◌+◌, ◌<◌, List, length, get_or, set, slice_get, Some, sym, ap, subst, arith}
-use Rattle.std.proofs.lemmas.Bool.Decides.{eqb_tells}
-use Rattle.std.proofs.lemmas.List.{length-set, get_or-set_same, get_or-set_other}
+use Rattle.std.proofs.lemmas.{Bool.Decides.eqb_tells, List.length-set, List.get_or-set_same, List.get_or-set_other}
 use Rattle.std.proofs.lemmas.Option.{slice_get_within, slice_get-get_or, get_or_from_slice_get}
-use Rattle.list_laws.proofs.Places.{one_there}
-use Rattle.list_laws.proofs.Ranges.{last_or}
-use Rattle.image_defs.specs.declared.image.BlockWork.{BlockWork}
-use Rattle.image_defs.specs.Ports.{PortView}
-use Rattle.port_array.specs.Acts.{LaneMemory}
-use Rattle.port_array.specs.code.Acts.{Acted, AreActed}
+use Rattle.list_laws.proofs.{Places.one_there, Ranges.last_or}
+use Rattle.image_defs.specs.{declared.image.BlockWork.BlockWork, Ports.PortView}
+use Rattle.port_array.specs.{Acts.LaneMemory, code.Acts.Acted, code.Acts.AreActed}
 
 -- a member of a list by its place
 pub member_at : {X : Type 0} (xs : List X) (i : ℕ) (x : X) → i < length xs → x ≡ get_or xs i x → slice_get xs i ≡ Some x

@@ -1,15 +1,8 @@
 -- What an array processor keeps in a lane: its memories hold the words that the image has.
 use Rattle.std.specs.Prelude.{◌≡◌, ℕ, ◌-◌, ◌≤◌, true, if◌then◌else◌, List, Some, slice_get}
 use Rattle.net_defs.specs.Time.{is_edge}
-use Rattle.image_defs.specs.declared.image.BlockWork.{BlockWork}
-use Rattle.image_defs.specs.declared.image.OutBit.{OutBit}
-use Rattle.image_defs.specs.declared.image.PortImage.{PortImage}
-use Rattle.image_defs.specs.declared.image.Work.TheVariants.{Array}
-use Rattle.image_defs.specs.Places.{IsPort}
-use Rattle.image_defs.specs.WellFormed.{IsWellFormed}
-use Rattle.image_defs.specs.Steps.{block_act}
-use Rattle.image_defs.specs.Frames.{frame}
-use Rattle.image_defs.specs.Ports.{PortView}
+use Rattle.image_defs.specs.declared.image.{BlockWork.BlockWork, OutBit.OutBit, PortImage.PortImage, Work.TheVariants.Array}
+use Rattle.image_defs.specs.{Places.IsPort, WellFormed.IsWellFormed, Steps.block_act, Frames.frame, Ports.PortView}
 use Rattle.port_bank.specs.Reads.{past_in}
 use Rattle.port_array.specs.Acts.{LaneMemory, AreFit}
 

@@ -1,17 +1,11 @@
 -- The memories of an array processor with as many lanes as a word has: in each lane those of a plain one, with words
 -- of its own.
 use Rattle.std.specs.Prelude.{◌≡◌, ℕ, ◌<◌, List, [], length, map, Some, slice_get, slice_index_or}
-use Rattle.image_defs.specs.declared.image.BlockWork.{BlockWork}
-use Rattle.image_defs.specs.declared.image.OutBit.{OutBit}
-use Rattle.image_defs.specs.declared.image.PortImage.{PortImage}
-use Rattle.image_defs.specs.declared.image.Work.TheVariants.{Array}
-use Rattle.image_defs.specs.Places.{IsPort}
-use Rattle.image_defs.specs.Ports.{View, lane_port}
+use Rattle.image_defs.specs.declared.image.{BlockWork.BlockWork, OutBit.OutBit, PortImage.PortImage, Work.TheVariants.Array}
+use Rattle.image_defs.specs.{Places.IsPort, Ports.View, Ports.lane_port}
 use Rattle.port_bank.specs.declared.word.Word as word
 use Rattle.port_bank.specs.Places.{lane_values}
-use Rattle.port_array.specs.declared.memory.MemoryState.{MemoryState}
-use Rattle.port_array.specs.Acts.{LaneMemory, FitsMemory}
-use Rattle.port_array.specs.Kept.{LaneArray}
+use Rattle.port_array.specs.{declared.memory.MemoryState.MemoryState, Acts.LaneMemory, Acts.FitsMemory, Kept.LaneArray}
 use Rattle.port_array.specs.Kept as plain
 
 -- how far its bank has come, its work, and its memories

@@ -4,8 +4,7 @@ ghost use Rattle.std.specs.Prelude.{◌≡◌, ◌≢◌, ◌<◌, ◌≤◌, �
 ghost use Rattle.limits.specs.declared.TheConstants.{MAX_ADDRESS_BITS, MAX_WORD_BITS};
 ghost use Rattle.logic_four.specs.Memory.{memory_act, initial_words, HasShape};
 ghost use Rattle.net_defs.specs.Time.{is_edge};
-ghost use Rattle.image_defs.specs.Places.{Each};
-ghost use Rattle.image_defs.specs.Ports.{lane_port};
+ghost use Rattle.image_defs.specs.{Places.Each, Ports.lane_port};
 ghost use Rattle.port_array.specs.Lanes.{lane_memory, lane_memories, IsWhole, AreWhole};
 ghost use Rattle.port_array.specs.code.Acts.{past_of, answered_bit, FitsBit, IsPastAt, ReadsPast, HasFewBits, Acted};
 ghost use Rattle.port_array.specs.code.Lanes.{IsFirst, Stays, HasActed, ReadPast, AreFirst, HaveActed};

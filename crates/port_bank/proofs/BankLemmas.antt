@@ -1,36 +1,21 @@
 -- The bank of a plain port, or of one lane, keeps the values of its turn and of the turn before.
 use Rattle.std.proofs.Common.{◌≡◌, ◌∙◌, ◌⊎◌, inl, inr, Bool, ℕ, zero, suc, ◌+◌, ◌-◌, ◌*◌, ◌<◌, ◌≤◌, true, false, List, [], ◌∷◌, length, replicate, get_or, set, slice_get, Some, sym, ap, subst, refl, arith}
-use Rattle.std.specs.Option.{option_map}
-use Rattle.std.proofs.Math.Nat.{add-sub_cancel}
-use Rattle.std.proofs.lemmas.Nat.{mul-le}
-use Rattle.std.proofs.lemmas.Bool.{cases_lt}
 use Rattle.std.proofs.lemmas.List.{length-set, length-append, length-replicate, get_or-set_same, get_or-set_other, get_or_append_left, get_or-replicate}
-use Rattle.std.proofs.lemmas.Option.{slice_get_within, slice_get-get_or, slice_get-map}
-use Rattle.std.proofs.Math.Seq.{get_or-append-add}
-use Rattle.logic_four.specs.declared.V4.{V4}
+use Rattle.std.proofs.{Math.Nat.add-sub_cancel, lemmas.Nat.mul-le, lemmas.Bool.cases_lt}
+use Rattle.std.proofs.{lemmas.Option.slice_get_within, lemmas.Option.slice_get-get_or, lemmas.Option.slice_get-map, Math.Seq.get_or-append-add}
+use Rattle.std.specs.Option.{option_map}
 use Rattle.logic_four.specs.declared.V4.TheVariants.{Zero, One, Undef, HighZ}
-use Rattle.logic_four.specs.Values.{code_of, value_at}
-use Rattle.net_defs.specs.declared.stimulus.Stimulus.{Stimulus}
-use Rattle.net_defs.specs.Time.{is_edge, cycle_count}
-use Rattle.net_defs.specs.Valid.{IsValidStimulus}
-use Rattle.image_defs.specs.declared.image.Source.{Source}
-use Rattle.image_defs.specs.declared.image.Source.TheVariants.{Own, Got, Const}
-use Rattle.image_defs.specs.declared.image.LinkIn.{LinkIn}
-use Rattle.image_defs.specs.declared.image.PortImage.{PortImage}
-use Rattle.image_defs.specs.declared.image.Image.{Image}
+use Rattle.logic_four.specs.{declared.V4.V4, Values.code_of, Values.value_at}
+use Rattle.net_defs.specs.{declared.stimulus.Stimulus.Stimulus, Time.is_edge, Time.cycle_count, Valid.IsValidStimulus}
 use Rattle.image_defs.specs.Places.{item_slots, in_slots, sender_in, IsPort, IsItemIn}
-use Rattle.image_defs.specs.WellFormed.{IsWellFormed}
-use Rattle.image_defs.specs.Frames.{image_value}
 use Rattle.image_defs.specs.Ports.{CanExecute, CanReceive, CanEnd, value_in}
-use Rattle.image_defs.proofs.lemmas.PlaceLemmas.{Rises, rises, sender_found}
-use Rattle.image_defs.proofs.lemmas.ValueLemmas.{value_meets}
-use Rattle.port_bank.specs.declared.steps.Operand.{Operand}
-use Rattle.port_bank.specs.Flat.{operand_of}
-use Rattle.port_bank.specs.Reads.{IsAtHand, IsRead, value_taken}
-use Rattle.port_bank.specs.code.Places.{numbered}
-use Rattle.port_bank.proofs.PlaceLemmas.{numbered_even, numbered_past, numbered_this}
+use Rattle.image_defs.specs.declared.image.{Source.Source, Source.TheVariants.Own, Source.TheVariants.Got, Source.TheVariants.Const, LinkIn.LinkIn}
+use Rattle.image_defs.specs.{declared.image.PortImage.PortImage, declared.image.Image.Image, WellFormed.IsWellFormed, Frames.image_value}
+use Rattle.image_defs.proofs.lemmas.{PlaceLemmas.Rises, PlaceLemmas.rises, PlaceLemmas.sender_found, ValueLemmas.value_meets}
 use Rattle.port_bank.specs.Banks.{IsRoom, Holds, HoldsAll, LaneBank, view_of, IsKeptInLane}
+use Rattle.port_bank.specs.{declared.steps.Operand.Operand, Flat.operand_of, Reads.IsAtHand, Reads.IsRead, Reads.value_taken, code.Places.numbered}
 use Rattle.port_bank.specs.code.Banks.{blank}
+use Rattle.port_bank.proofs.PlaceLemmas.{numbered_even, numbered_past, numbered_this}
 
 -- ---- places
 

@@ -3,9 +3,8 @@ use Rattle.std.proofs.Common.{◌≡◌, ◌∙◌, ℕ, ◌+◌, ◌<◌, List,
 use Rattle.std.proofs.lemmas.Option.{slice_get-get_or}
 use Rattle.list_laws.proofs.Places.{one_there}
 use Rattle.logic_four.specs.declared.V4.{V4}
-use Rattle.image_defs.specs.declared.image.PortImage.{PortImage}
-use Rattle.image_defs.specs.Places.{IsPort, item_slots}
 use Rattle.image_defs.specs.Ports.{PortView, CanExecute, after_execute, value_in}
+use Rattle.image_defs.specs.{declared.image.PortImage.PortImage, Places.IsPort, Places.item_slots}
 use Rattle.port_bank.specs.Runs.{CanRun, HasRun, IsLastValue}
 
 module _ (old : PortView) (slots : List ℕ) (from to : ℕ) (can : CanRun old slots from to) (now : PortView) (i : ℕ) (run : HasRun old now i) (below : i < to) where

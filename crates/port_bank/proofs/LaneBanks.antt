@@ -1,21 +1,12 @@
 -- The bank of a port keeps in each lane what a plain port's keeps.
 use Rattle.std.proofs.Common.{◌≡◌, ◌≢◌, ◌∙◌, Bool, ℕ, ◌+◌, ◌<◌, ◌≤◌, true, false, set, refl, sym, subst, arith}
-use Rattle.std.proofs.lemmas.Bool.{ne_eqb}
-use Rattle.std.proofs.lemmas.Option.{slice_get_within}
-use Rattle.logic_four.specs.declared.V4.{V4}
-use Rattle.logic_four.specs.Values.{value_at}
-use Rattle.net_defs.specs.declared.stimulus.Stimulus.{Stimulus}
-use Rattle.net_defs.specs.Time.{is_edge, initial_value}
-use Rattle.net_defs.specs.Valid.{IsValidStimulus}
-use Rattle.image_defs.specs.Places.{item_slots}
-use Rattle.image_defs.specs.WellFormed.{IsWellFormed}
+use Rattle.std.proofs.lemmas.{Bool.ne_eqb, Option.slice_get_within}
+use Rattle.logic_four.specs.{declared.V4.V4, Values.value_at}
+use Rattle.net_defs.specs.{declared.stimulus.Stimulus.Stimulus, Time.is_edge, Time.initial_value, Valid.IsValidStimulus}
 use Rattle.image_defs.specs.Ports.{View, lane_port, after_begin, after_execute, after_receive, after_end, CanBegin, CanExecute, CanReceive, CanEnd, value_in}
-use Rattle.port_bank.specs.declared.steps.Operand.{Operand}
-use Rattle.port_bank.specs.Banks.{IsKept, IsKeptInLane, lane_bank}
-use Rattle.port_bank.specs.Lanes.{InEach}
-use Rattle.port_bank.specs.Places.{Turns, count, in_lane}
-use Rattle.port_bank.specs.code.Places.{numbered, AreBlank}
-use Rattle.port_bank.specs.Reads.{IsRead, IsHeld}
+use Rattle.image_defs.specs.{Places.item_slots, WellFormed.IsWellFormed}
+use Rattle.port_bank.specs.{declared.steps.Operand.Operand, Banks.IsKept, Banks.IsKeptInLane, Banks.lane_bank, Lanes.InEach}
+use Rattle.port_bank.specs.{Places.Turns, Places.count, Places.in_lane, code.Places.numbered, code.Places.AreBlank, Reads.IsRead, Reads.IsHeld}
 use Rattle.port_bank.proofs.BankLemmas as plain
 use Rattle.port_bank.proofs.lemmas.LaneLemmas as lane_lemmas
 

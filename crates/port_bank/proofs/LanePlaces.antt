@@ -1,9 +1,9 @@
 -- Two words of each place, side by side: in each lane two values of each place.
 use Rattle.std.proofs.Common.{Bool, false, ◌≡◌, ◌∙◌, ℕ, zero, suc, ◌+◌, ◌*◌, ◌/◌, ◌<◌, List, [], ◌∷◌, ◌++◌, length, set, get_or, replicate, refl, sym, ap, ap₂, subst, arith}
-use Rattle.std.specs.Int.Bits.{bit_xor}
 use Rattle.std.proofs.lemmas.List.{length-map, get_or-map, map-append, map-set}
-use Rattle.logic_four.specs.declared.V4.{V4}
+use Rattle.std.specs.Int.Bits.{bit_xor}
 use Rattle.logic_four.specs.declared.V4.TheVariants.{Zero, One, Undef, HighZ}
+use Rattle.logic_four.specs.declared.V4.{V4}
 use Rattle.port_bank.specs.Places.{half, number_of, two_turns, lane_values}
 use Rattle.port_bank.specs.code.Places.{numbered, IsEven, twice, AddsTwice, AreBlank}
 use Rattle.port_bank.proofs.PlaceLemmas as plain

@@ -1,13 +1,9 @@
 -- The 16 entries of a table for given third and fourth operands stand side by side in one of its words.
 use Rattle.std.proofs.Common.{◌≡◌, ◌∙◌, ℕ, ◌+◌, ◌*◌, ◌/◌, ◌%◌, ◌^◌, ◌<◌, slice_index, sym, ap, ap₂, arith}
-use Rattle.std.proofs.Math.Nat.{div-div-eq-div-mul}
-use Rattle.std.proofs.lemmas.Nat.{pow-add}
-use Rattle.logic_four.specs.declared.V4.{V4}
-use Rattle.logic_four.specs.Values.{code_of, value_of}
-use Rattle.logic_four.specs.Packed.{code_in, packed_value}
+use Rattle.std.proofs.{Math.Nat.div-div-eq-div-mul, lemmas.Nat.pow-add}
+use Rattle.logic_four.specs.{declared.V4.V4, Values.code_of, Values.value_of, Packed.code_in, Packed.packed_value}
 use Rattle.logic_four.proofs.lemmas.CodeLemmas.{code_of_small}
-use Rattle.func_table.specs.declared.table.Table.{Table}
-use Rattle.func_table.specs.Entries.{entry_of, entry_for}
+use Rattle.func_table.specs.{declared.table.Table.Table, Entries.entry_of, Entries.entry_for}
 
 -- the first of the 16 entries whose third and fourth operands are these
 abbrev entry_at : V4 → V4 → ℕ

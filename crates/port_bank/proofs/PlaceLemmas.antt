@@ -1,17 +1,13 @@
 -- Two values of each place, side by side.
 use Rattle.std.proofs.Common.{Bool, true, false, not, inl, inr, ◌≡◌, ◌≢◌, ℕ, zero, suc, ◌⊎◌, ◌+◌, ◌-◌, ◌*◌, ◌/◌, ◌%◌, ◌<◌, ◌≤◌, List, [], ◌∷◌, ◌++◌, length, set, get_or, replicate, refl, sym, ap, subst, ◌∙◌, arith, get_or-set_same, get_or-set_other, length-append}
-use Rattle.std.specs.Int.Bits.{bit_xor, bit_and, xor_add_and, xor_zero_r}
-use Rattle.std.proofs.lemmas.Nat.{and_mask}
-use Rattle.std.proofs.lemmas.Bool.{cases_eq, cases_lt}
 use Rattle.std.proofs.lemmas.List.{ext_get_or, length-set, length-replicate, get_or-replicate, get_or_append_left, get_or_default}
-use Rattle.std.proofs.lemmas.List.FromFn.{length-map-range_with_len, get_or-map-range_with_len}
+use Rattle.std.proofs.lemmas.{Nat.and_mask, Bool.cases_eq, Bool.cases_lt, List.FromFn.length-map-range_with_len, List.FromFn.get_or-map-range_with_len}
 use Rattle.std.proofs.Math.Seq.{get_or-append-add}
-use Rattle.logic_four.specs.declared.V4.{V4}
+use Rattle.std.specs.Int.Bits.{bit_xor, bit_and, xor_add_and, xor_zero_r}
 use Rattle.logic_four.specs.declared.V4.TheVariants.{Zero, One, Undef, HighZ}
-use Rattle.logic_four.specs.Values.{value_at}
-use Rattle.port_bank.specs.code.Banks.{blank}
+use Rattle.logic_four.specs.{declared.V4.V4, Values.value_at}
 use Rattle.port_bank.specs.Places.{half, number_of, two_turns, TwoTurns}
-use Rattle.port_bank.specs.code.Places.{numbered, IsEven}
+use Rattle.port_bank.specs.code.{Banks.blank, Places.numbered, Places.IsEven}
 
 pub length-half : (flat : List V4) (number : ℕ) → length (half flat number) ≡ length flat / 2
 unfolding half

@@ -1,19 +1,12 @@
 -- What the banks of a port have: one the values of its turn so far, the other those of the turn before.
 use Rattle.std.specs.Prelude.{◌≡◌, ℕ, ◌+◌, ◌-◌, ◌*◌, ◌<◌, ◌≤◌, Bool, true, List, length, Some, slice_get}
-use Rattle.logic_four.specs.declared.V4.{V4}
-use Rattle.logic_four.specs.Values.{code_of, value_at}
-use Rattle.net_defs.specs.declared.stimulus.Stimulus.{Stimulus}
-use Rattle.net_defs.specs.Time.{is_edge}
-use Rattle.net_defs.specs.Valid.{IsValidStimulus}
-use Rattle.image_defs.specs.declared.image.LinkIn.{LinkIn}
-use Rattle.image_defs.specs.declared.image.PortImage.{PortImage}
-use Rattle.image_defs.specs.declared.image.Image.{Image}
-use Rattle.image_defs.specs.Places.{item_slots, IsPort, IsItemIn}
-use Rattle.image_defs.specs.WellFormed.{IsWellFormed}
-use Rattle.image_defs.specs.Frames.{image_value}
+use Rattle.logic_four.specs.{declared.V4.V4, Values.code_of, Values.value_at}
+use Rattle.net_defs.specs.{declared.stimulus.Stimulus.Stimulus, Time.is_edge, Valid.IsValidStimulus}
+use Rattle.image_defs.specs.declared.image.{LinkIn.LinkIn, PortImage.PortImage, Image.Image}
+use Rattle.image_defs.specs.{Places.item_slots, Places.IsPort, Places.IsItemIn, WellFormed.IsWellFormed, Frames.image_value}
 use Rattle.image_defs.specs.Ports.{View, PortView, last_turn}
-use Rattle.port_bank.specs.Flat.{place_count}
 use Rattle.port_bank.specs.Places.{TwoTurns, Turns, count, in_lane}
+use Rattle.port_bank.specs.Flat.{place_count}
 
 -- there are all places for so many slots, and the constants stand in theirs
 pub record IsRoom (slots : ℕ) (bank : List V4) : Type 0 where

@@ -3,10 +3,8 @@
 -- code. The number of an operand is twice its place, and one more where it is of the turn before.
 use Rattle.std.specs.Prelude.{ℕ, ◌+◌, ◌*◌, ◌<◌}
 use Rattle.logic_four.specs.Values.{code_of}
-use Rattle.image_defs.specs.declared.image.Source.{Source}
-use Rattle.image_defs.specs.declared.image.Source.TheVariants.{Own, Got, Const}
-use Rattle.port_bank.specs.Places.{number_of}
-use Rattle.port_bank.specs.declared.steps.Operand.{Operand}
+use Rattle.image_defs.specs.declared.image.Source.{Source, TheVariants.Own, TheVariants.Got, TheVariants.Const}
+use Rattle.port_bank.specs.{Places.number_of, declared.steps.Operand.Operand}
 
 -- the number of places
 abbrev pub place_count : ℕ → ℕ

@@ -2,8 +2,7 @@
 -- which go step by step together; nothing but the stimulus of a lane tells them apart.
 use Rattle.std.specs.Prelude.{ℕ, ◌<◌}
 use Rattle.limits.specs.declared.TheConstants.{LANES}
-use Rattle.stim_text.specs.declared.lanes.Lanes.{Lanes}
-use Rattle.stim_text.specs.Lanes.{lane_stimulus}
+use Rattle.stim_text.specs.{declared.lanes.Lanes.Lanes, Lanes.lane_stimulus}
 use Rattle.image_defs.specs.Ports.{View, PortView}
 use Rattle.image_defs.specs.Ports as ports
 

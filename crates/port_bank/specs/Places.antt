@@ -2,8 +2,7 @@
 -- packed port has such values in each lane.
 use Rattle.std.specs.Prelude.{ℕ, ◌+◌, ◌*◌, ◌/◌, Bool, not, if◌then◌else◌, List, length, map}
 use Rattle.std.specs.List.{range_with_len}
-use Rattle.logic_four.specs.declared.V4.{V4}
-use Rattle.logic_four.specs.Values.{value_at}
+use Rattle.logic_four.specs.{declared.V4.V4, Values.value_at}
 
 -- the values of all places, in two lists
 pub record TwoTurns : Type 0 where

@@ -2,16 +2,10 @@
 use Rattle.std.specs.Prelude.{◌≡◌, ℕ, ◌-◌, ◌<◌, false, Some, slice_get}
 use Rattle.logic_four.specs.declared.V4.{V4}
 use Rattle.net_defs.specs.Steps.{registered}
-use Rattle.image_defs.specs.declared.image.Source.{Source}
-use Rattle.image_defs.specs.declared.image.Source.TheVariants.{Own, Got, Const}
-use Rattle.image_defs.specs.declared.image.LinkIn.{LinkIn}
-use Rattle.image_defs.specs.declared.image.PortImage.{PortImage}
-use Rattle.image_defs.specs.Places.{IsPort, IsItemIn}
-use Rattle.image_defs.specs.Steps.{Frame, source_value, timing_of}
-use Rattle.image_defs.specs.Frames.{frame}
+use Rattle.image_defs.specs.declared.image.{Source.Source, Source.TheVariants.Own, Source.TheVariants.Got, Source.TheVariants.Const, LinkIn.LinkIn}
+use Rattle.image_defs.specs.{declared.image.PortImage.PortImage, Places.IsPort, Places.IsItemIn, Steps.Frame, Steps.source_value, Steps.timing_of, Frames.frame}
 use Rattle.image_defs.specs.Ports.{PortView}
-use Rattle.port_bank.specs.declared.steps.Operand.{Operand}
-use Rattle.port_bank.specs.Flat.{operand_of}
+use Rattle.port_bank.specs.{declared.steps.Operand.Operand, Flat.operand_of}
 
 -- what the image has at the port's turn, and what it had at the turn before
 abbrev pub now_in : PortView → Frame

@@ -1,9 +1,7 @@
 -- A run of a port's items, and the room that the host has for a row.
 use Rattle.std.specs.Prelude.{◌≡◌, ℕ, ◌+◌, ◌-◌, ◌/◌, ◌<◌, ◌≤◌, true, List, length, Option, None, Some, slice_get}
 use Rattle.logic_four.specs.declared.V4.{V4}
-use Rattle.image_defs.specs.declared.image.LinkIn.{LinkIn}
-use Rattle.image_defs.specs.declared.image.PortImage.{PortImage}
-use Rattle.image_defs.specs.Places.{IsPort, IsItemIn, item_slots}
+use Rattle.image_defs.specs.{declared.image.LinkIn.LinkIn, declared.image.PortImage.PortImage, Places.IsPort, Places.IsItemIn, Places.item_slots}
 use Rattle.image_defs.specs.Ports.{View, PortView, value_in}
 
 -- the turn has begun, and the items up to number `to` may be executed from number `from` on: all that

@@ -2,11 +2,9 @@
 
 ghost use Rattle.std.specs.Prelude.{◌≡◌, ◌*◌, ◌<◌, IfOk};
 ghost use Rattle.net_defs.specs.Time.{is_edge};
-ghost use Rattle.image_defs.specs.WellFormed.{IsWellFormed};
 ghost use Rattle.image_defs.specs.Ports.{lane_port, at_first, after_begin, after_execute, after_receive, after_end, value_in, CanBegin, CanExecute, CanReceive, CanEnd};
-ghost use Rattle.port_bank.specs.Flat.{place_count, IsWithin};
-ghost use Rattle.port_bank.specs.Lanes.{InEach};
-ghost use Rattle.port_bank.specs.Reads.{IsRead, IsHeld, IsTaken};
+ghost use Rattle.image_defs.specs.WellFormed.{IsWellFormed};
+ghost use Rattle.port_bank.specs.{Flat.place_count, Flat.IsWithin, Lanes.InEach, Reads.IsRead, Reads.IsHeld, Reads.IsTaken};
 ghost use Rattle.port_bank.specs.Words.{InEachLane, InEachLaneOf, AreValues};
 
 use crate::places::Places;

@@ -3,8 +3,7 @@
 ghost use Rattle.std.specs.Prelude.{◌≡◌, ◌*◌, ◌^◌, ◌<◌, ◌≤◌, ℕ, set, IfOk, OnOk};
 ghost use Rattle.limits.specs.declared.TheConstants.{MAX_SLOTS};
 ghost use Rattle.logic_four.specs.Values.{value_at};
-ghost use Rattle.port_bank.specs.Places.{number_of, count, in_lane};
-ghost use Rattle.port_bank.specs.code.Places.{numbered, AddsTwice, AreBlank};
+ghost use Rattle.port_bank.specs.{Places.number_of, Places.count, Places.in_lane, code.Places.numbered, code.Places.AddsTwice, code.Places.AreBlank};
 
 use crate::word::Word;
 use logic_four::V4;
@@ -23,8 +22,7 @@ pub(crate) struct Places<W> {
 }
 
 impl<W> Model for Places<W> {
-    ghost use Rattle.port_bank.specs.Places.{Turns};
-    ghost use Rattle.port_bank.specs.code.Places.{IsEven};
+    ghost use Rattle.port_bank.specs.{Places.Turns, code.Places.IsEven};
 
     ghost Value = { Turns W };
 

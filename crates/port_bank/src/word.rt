@@ -2,16 +2,10 @@
 
 ghost use Rattle.std.specs.Prelude.{◌≡◌, ◌∷◌, [], ℕ, ◌+◌, ◌*◌, ◌<◌, IfSome};
 ghost use Rattle.limits.specs.declared.TheConstants.{LANES};
-ghost use Rattle.logic_four.specs.declared.V4.{V4};
-ghost use Rattle.logic_four.specs.Values.{code_of, value_of, settled};
-ghost use Rattle.logic_four.specs.Packed.{code_in};
-ghost use Rattle.logic_four.specs.Gates.{gate_value};
-ghost use Rattle.func_table.specs.declared.table.Table.{Table};
-ghost use Rattle.func_table.specs.Entries.{entry_for};
-ghost use Rattle.lane_planes.specs.Lanes.{lane_of};
-ghost use Rattle.lane_planes.specs.Forms.{IsForm};
-ghost use Rattle.net_defs.specs.declared.stimulus.Stimulus.{Stimulus};
-ghost use Rattle.net_defs.specs.Valid.{IsValidStimulus};
+ghost use Rattle.logic_four.specs.{declared.V4.V4, Values.code_of, Values.value_of, Values.settled, Packed.code_in, Gates.gate_value};
+ghost use Rattle.func_table.specs.{declared.table.Table.Table, Entries.entry_for};
+ghost use Rattle.lane_planes.specs.{Lanes.lane_of, Forms.IsForm};
+ghost use Rattle.net_defs.specs.{declared.stimulus.Stimulus.Stimulus, Valid.IsValidStimulus};
 ghost use Rattle.stim_text.specs.Lanes.{lane_stimulus, AreLanes};
 ghost use Rattle.std.proofs.Common.{zero-le, suc-le-suc};
 ghost use Rattle.stim_text.proofs.lemmas.LaneLemmas.{lane_valid};

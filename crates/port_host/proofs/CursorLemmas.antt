@@ -1,19 +1,12 @@
 -- The cursor stands at the row of its cycle.
 use Rattle.std.proofs.Common.{◌≡◌, ◌∙◌, ◌⊎◌, inl, inr, ℕ, zero, suc, ◌+◌, ◌-◌, ◌<◌, ◌≤◌, List, [], ◌++◌, length, replicate, drop, get_or, Option, Some, None, slice_get, sym, ap, subst, refl, arith}
-use Rattle.std.specs.List.{flat_map}
-use Rattle.std.proofs.Math.ListN.{drop_of_length-le}
-use Rattle.std.proofs.lemmas.Bool.{cases_lt}
-use Rattle.std.proofs.lemmas.List.{drop-drop, length-drop, get_or-drop}
+use Rattle.std.proofs.{Math.ListN.drop_of_length-le, lemmas.Bool.cases_lt, lemmas.List.drop-drop, lemmas.List.length-drop, lemmas.List.get_or-drop}
 use Rattle.std.proofs.lemmas.Option.{slice_get_past}
+use Rattle.std.specs.List.{flat_map}
 use Rattle.list_laws.proofs.Places.{drop_here, past_end}
 use Rattle.logic_four.specs.declared.V4.{V4}
-use Rattle.net_defs.specs.declared.stimulus.StimRow.{StimRow}
-use Rattle.net_defs.specs.declared.stimulus.Stimulus.{Stimulus}
-use Rattle.net_defs.specs.Time.{cycle_rows, cycle_count}
-use Rattle.net_defs.specs.Valid.{IsValidStimulus}
-use Rattle.port_host.specs.declared.cursor.RowCursor.{RowCursor}
-use Rattle.port_host.specs.Rows.{values_in, rows_left, IsAt}
-use Rattle.port_host.specs.code.Rows.{times_in}
+use Rattle.net_defs.specs.{declared.stimulus.StimRow.StimRow, declared.stimulus.Stimulus.Stimulus, Time.cycle_rows, Time.cycle_count, Valid.IsValidStimulus}
+use Rattle.port_host.specs.{declared.cursor.RowCursor.RowCursor, Rows.values_in, Rows.rows_left, Rows.IsAt, code.Rows.times_in}
 
 -- the cycles of one row
 abbrev repeats : StimRow → List (List V4)

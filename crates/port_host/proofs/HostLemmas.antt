@@ -1,36 +1,21 @@
 -- The host keeps its place in the stimulus, and the rows of the cycles that are over and not given up.
 use Rattle.std.proofs.Common.{◌≡◌, ◌≢◌, ◌∙◌, ◌⊎◌, inl, inr, ℕ, ◌+◌, ◌-◌, ◌*◌, ◌/◌, ◌<◌, ◌≤◌, true, false, List, [], length, get_or, Option, Some, None, slice_get, sym, ap, subst, refl, arith}
-use Rattle.std.proofs.lemmas.Bool.{cases_lt}
-use Rattle.std.proofs.lemmas.Option.{slice_get_within, slice_get-get_or, slice_get_read}
-use Rattle.logic_four.specs.declared.V4.{V4}
-use Rattle.logic_four.specs.declared.V4.TheVariants.{Undef}
-use Rattle.logic_four.specs.Values.{value_at}
-use Rattle.net_defs.specs.declared.stimulus.Stimulus.{Stimulus}
-use Rattle.net_defs.specs.Time.{cycle_rows, cycle_count, cycle_of}
-use Rattle.net_defs.specs.Valid.{IsValidStimulus}
-use Rattle.image_defs.specs.declared.image.Source.{Source}
-use Rattle.image_defs.specs.declared.image.Source.TheVariants.{Own, Got, Const}
-use Rattle.image_defs.specs.declared.image.LinkIn.{LinkIn}
-use Rattle.image_defs.specs.declared.image.InColumn.{InColumn}
-use Rattle.image_defs.specs.declared.image.Work.TheVariants.{Host}
-use Rattle.image_defs.specs.declared.image.PortImage.{PortImage}
-use Rattle.image_defs.specs.declared.image.Image.{Image}
+use Rattle.std.proofs.lemmas.{Bool.cases_lt, Option.slice_get_within, Option.slice_get-get_or, Option.slice_get_read}
+use Rattle.logic_four.specs.{declared.V4.V4, declared.V4.TheVariants.Undef, Values.value_at}
+use Rattle.net_defs.specs.{declared.stimulus.Stimulus.Stimulus, Time.cycle_rows, Time.cycle_count, Time.cycle_of, Valid.IsValidStimulus}
 use Rattle.image_defs.specs.Places.{Each, host_of, printed_of, item_slots, in_slots, IsPort, IsItemIn}
-use Rattle.image_defs.specs.WellFormed.{IsWellFormed, IsPresent, IsWork}
 use Rattle.image_defs.specs.Steps.{Grid, value_of_member, source_value, column_value, item_value}
-use Rattle.image_defs.specs.Frames.{frame, printed_value, shown}
 use Rattle.image_defs.specs.Ports.{PortView, CanExecute, CanEnd, at_first, after_end, value_in}
+use Rattle.image_defs.specs.declared.image.{Source.Source, Source.TheVariants.Own, Source.TheVariants.Got, Source.TheVariants.Const, LinkIn.LinkIn}
+use Rattle.image_defs.specs.declared.image.{InColumn.InColumn, Work.TheVariants.Host, PortImage.PortImage, Image.Image}
+use Rattle.image_defs.specs.{WellFormed.IsWellFormed, WellFormed.IsPresent, WellFormed.IsWork, Frames.frame, Frames.printed_value, Frames.shown}
 use Rattle.image_defs.proofs.lemmas.PlaceLemmas.{at_map}
-use Rattle.port_bank.specs.Flat.{IsWithin}
-use Rattle.port_bank.specs.Reads.{IsAtHand, now_in, past_in}
+use Rattle.port_bank.specs.{Flat.IsWithin, Reads.IsAtHand, Reads.now_in, Reads.past_in}
 use Rattle.port_bank.proofs.lemmas.TurnLemmas.{item_meets, there_within}
-use Rattle.port_host.specs.declared.cursor.Progress.{Progress}
-use Rattle.port_host.specs.declared.port.HostPort.TheInside.{Inside}
 use Rattle.port_host.specs.Rows.{values_in, turn_of, rows_done, printed_sources, row_start, HasRoom, IsOn, HasRows}
-use Rattle.port_host.specs.code.Rows.{HasPrinted}
-use Rattle.port_host.specs.Kept.{IsReady, view_of}
-use Rattle.port_host.proofs.CursorLemmas.{still_within, row_at}
+use Rattle.port_host.specs.{declared.cursor.Progress.Progress, declared.port.HostPort.TheInside.Inside, code.Rows.HasPrinted, Kept.IsReady, Kept.view_of}
 use Rattle.port_host.proofs.RowLemmas.{row_fits, cycles_over, cycle_runs, cycle_ends, cycle_goes_on, cycle_done, one_more, row_more}
+use Rattle.port_host.proofs.CursorLemmas.{still_within, row_at}
 
 -- ---- the work of the host
 

@@ -1,20 +1,13 @@
 -- Cycles of a run, and rows of cells.
 use Rattle.std.proofs.Common.{◌≡◌, ◌≢◌, ◌∙◌, ◌⊎◌, inl, inr, ℕ, suc, ◌+◌, ◌-◌, ◌*◌, ◌/◌, ◌<◌, ◌≤◌, List, length, get_or, set, Some, slice_get, sym, ap, subst, refl, arith}
-use Rattle.std.proofs.Math.Nat.{suc-mul, mul-le-mul_right}
-use Rattle.std.proofs.lemmas.Bool.{cases_lt}
-use Rattle.std.proofs.lemmas.Nat.{div-mul-add}
-use Rattle.std.proofs.lemmas.List.{length-set, get_or-set_same, get_or-set_other}
-use Rattle.std.proofs.lemmas.Option.{get_or_from_slice_get}
+use Rattle.std.proofs.{Math.Nat.suc-mul, Math.Nat.mul-le-mul_right, lemmas.Bool.cases_lt, lemmas.Nat.div-mul-add}
+use Rattle.std.proofs.lemmas.{List.length-set, List.get_or-set_same, List.get_or-set_other, Option.get_or_from_slice_get}
 use Rattle.list_laws.proofs.Ranges.{last_or}
-use Rattle.logic_four.specs.declared.V4.{V4}
-use Rattle.logic_four.specs.declared.V4.TheVariants.{Undef}
-use Rattle.logic_four.specs.Values.{value_at}
-use Rattle.image_defs.specs.declared.image.Source.{Source}
-use Rattle.image_defs.specs.Ports.{PortView, after_end}
+use Rattle.logic_four.specs.{declared.V4.V4, declared.V4.TheVariants.Undef, Values.value_at}
+use Rattle.image_defs.specs.{declared.image.Source.Source, Ports.PortView, Ports.after_end}
 use Rattle.port_bank.specs.Reads.{IsTaken}
-use Rattle.port_host.specs.declared.cursor.Progress.{Progress}
 use Rattle.port_host.specs.Rows.{turn_of, rows_done, row_start, HasRows}
-use Rattle.port_host.specs.code.Rows.{HasPrinted}
+use Rattle.port_host.specs.{declared.cursor.Progress.Progress, code.Rows.HasPrinted}
 
 -- ---- numbers
 

@@ -1,12 +1,8 @@
 -- What the host keeps: its place in the stimulus, and the rows of the cycles that are over and not given up.
 use Rattle.std.specs.Prelude.{◌≡◌, ◌+◌, ◌-◌, ◌*◌, ◌≤◌, true, length}
 use Rattle.net_defs.specs.Valid.{IsValidStimulus}
-use Rattle.image_defs.specs.declared.image.PortImage.{PortImage}
-use Rattle.image_defs.specs.declared.image.Work.TheVariants.{Host}
-use Rattle.image_defs.specs.Places.{host_of, IsPort}
-use Rattle.image_defs.specs.WellFormed.{IsWellFormed}
-use Rattle.image_defs.specs.Frames.{shown}
-use Rattle.image_defs.specs.Ports.{last_turn}
+use Rattle.image_defs.specs.{declared.image.PortImage.PortImage, declared.image.Work.TheVariants.Host, Places.host_of, Places.IsPort, WellFormed.IsWellFormed}
+use Rattle.image_defs.specs.{Frames.shown, Ports.last_turn}
 use Rattle.port_host.specs.Rows.{HostView, turn_of, IsOn, HasRows}
 use Rattle.port_host.specs.declared.port.HostPort.TheInside.{Inside}
 

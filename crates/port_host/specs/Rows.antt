@@ -1,18 +1,11 @@
 -- The rows of a stimulus by a cursor, the cycles of a run, and the cells that are printed.
 use Rattle.std.specs.Prelude.{◌≡◌, ℕ, ◌+◌, ◌-◌, ◌*◌, ◌/◌, ◌<◌, ◌≤◌, List, [], ◌++◌, length, replicate, drop, Option, Some, None, slice_get}
 use Rattle.std.specs.List.{flat_map}
-use Rattle.logic_four.specs.declared.V4.{V4}
-use Rattle.logic_four.specs.Values.{value_at}
-use Rattle.net_defs.specs.declared.stimulus.StimRow.{StimRow}
-use Rattle.net_defs.specs.declared.stimulus.Stimulus.{Stimulus}
-use Rattle.net_defs.specs.Time.{cycle_rows, cycle_count}
-use Rattle.image_defs.specs.declared.image.Source.{Source}
-use Rattle.image_defs.specs.declared.image.PortImage.{PortImage}
-use Rattle.image_defs.specs.declared.image.Image.{Image}
-use Rattle.image_defs.specs.Places.{host_of, printed_of}
+use Rattle.logic_four.specs.{declared.V4.V4, Values.value_at}
+use Rattle.net_defs.specs.{declared.stimulus.StimRow.StimRow, declared.stimulus.Stimulus.Stimulus, Time.cycle_rows, Time.cycle_count}
+use Rattle.image_defs.specs.{declared.image.Source.Source, declared.image.PortImage.PortImage, declared.image.Image.Image, Places.host_of, Places.printed_of}
 use Rattle.image_defs.specs.Ports.{PortView, after_end, at_first}
-use Rattle.port_host.specs.declared.cursor.RowCursor.{RowCursor}
-use Rattle.port_host.specs.declared.cursor.Progress.{Progress}
+use Rattle.port_host.specs.declared.cursor.{RowCursor.RowCursor, Progress.Progress}
 
 -- ---- rows of the stimulus
 

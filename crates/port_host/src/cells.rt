@@ -4,8 +4,7 @@ ghost use Rattle.std.specs.Prelude.{ℕ, ◌≡◌, ◌≢◌, ◌+◌, ◌*◌,
 ghost use Rattle.logic_four.specs.Values.{value_at};
 ghost use Rattle.image_defs.specs.Places.{Each};
 ghost use Rattle.port_bank.specs.Flat.{IsWithin};
-ghost use Rattle.port_host.specs.Rows.{row_start};
-ghost use Rattle.port_host.specs.code.Rows.{HasPrinted};
+ghost use Rattle.port_host.specs.{Rows.row_start, code.Rows.HasPrinted};
 
 use image_defs::Source;
 use logic_four::V4;

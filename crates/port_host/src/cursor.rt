@@ -1,8 +1,7 @@
 //! The row of a cycle, without writing the repeats out.
 
 ghost use Rattle.std.specs.Prelude.{ℕ, ◌≡◌, ◌+◌, ◌<◌, length, slice_get};
-ghost use Rattle.net_defs.specs.Time.{cycle_count, value_at};
-ghost use Rattle.net_defs.specs.Valid.{IsValidStimulus};
+ghost use Rattle.net_defs.specs.{Time.cycle_count, Time.value_at, Valid.IsValidStimulus};
 ghost use Rattle.port_host.specs.Rows.{values_in, turn_of, IsAt, IsOn};
 ghost use Rattle.port_host.specs.code.Rows.{times_in};
 

@@ -1,11 +1,9 @@
 //! The host in its run.
 
 ghost use Rattle.std.specs.Prelude.{ℕ, ◌≡◌, ◌<◌, ◌≤◌, length, IfOk, Some};
-ghost use Rattle.net_defs.specs.Time.{value_at};
-ghost use Rattle.net_defs.specs.Valid.{IsValidStimulus};
-ghost use Rattle.image_defs.specs.WellFormed.{IsWellFormed};
-ghost use Rattle.image_defs.specs.Frames.{shown};
+ghost use Rattle.net_defs.specs.{Time.value_at, Valid.IsValidStimulus};
 ghost use Rattle.image_defs.specs.Ports.{after_begin, after_execute, after_receive, after_end, value_in, CanBegin, CanExecute, CanReceive, CanEnd};
+ghost use Rattle.image_defs.specs.{WellFormed.IsWellFormed, Frames.shown};
 ghost use Rattle.port_host.specs.Rows.{HasRoom, given_up, host_at_first, moved_to, printed_sources, rows_done};
 
 use crate::cells::{keep_row, room, row, row_start};

@@ -1,28 +1,18 @@
 -- What a task laid flat answers is the value of the task.
 use Rattle.std.proofs.Common.{◌≡◌, ◌∙◌, inl, inr, ℕ, ◌+◌, ◌*◌, ◌<◌, ◌≤◌, ◌⊎◌, List, [], ◌∷◌, ◌++◌, length, slice_get, Some, sym, ap, ap₂, subst, refl, arith}
-use Rattle.std.proofs.lemmas.Option.{slice_get_within}
-use Rattle.std.proofs.lemmas.Bool.{cases_lt}
-use Rattle.std.proofs.lemmas.List.{length-append}
+use Rattle.std.proofs.lemmas.{Option.slice_get_within, Bool.cases_lt, List.length-append}
 use Rattle.list_laws.proofs.Places.{at_front, seam_at}
-use Rattle.logic_four.specs.declared.V4.{V4}
-use Rattle.logic_four.specs.Values.{settled}
+use Rattle.logic_four.specs.{declared.V4.V4, Values.settled}
 use Rattle.net_defs.specs.Steps.{registered}
-use Rattle.func_table.specs.declared.table.Table.{Table}
-use Rattle.func_table.specs.Entries.{entry_for, looked_up}
-use Rattle.image_defs.specs.declared.image.Source.{Source}
-use Rattle.image_defs.specs.declared.image.Task.{Task}
-use Rattle.image_defs.specs.declared.image.Task.TheVariants.{Eval, Hold}
-use Rattle.image_defs.specs.Places.{task_slot}
-use Rattle.image_defs.specs.Steps.{past_value, task_value, timing_of}
-use Rattle.image_defs.specs.Ports.{PortView}
-use Rattle.port_bank.specs.declared.steps.Operand.{Operand}
-use Rattle.port_bank.specs.Flat.{place_count, operand_of}
+use Rattle.func_table.specs.{declared.table.Table.Table, Entries.entry_for, Entries.looked_up}
+use Rattle.image_defs.specs.declared.image.{Source.Source, Task.Task, Task.TheVariants.Eval, Task.TheVariants.Hold}
+use Rattle.image_defs.specs.{Places.task_slot, Steps.past_value, Steps.task_value, Steps.timing_of, Ports.PortView}
 use Rattle.port_bank.specs.Reads.{IsAtHand, IsRead, IsHeld, now_in, past_in, value_taken}
+use Rattle.port_bank.specs.{declared.steps.Operand.Operand, Flat.place_count, Flat.operand_of}
 use Rattle.port_bank.proofs.lemmas.TurnLemmas.{place_within, past_at_hand, past_taken}
-use Rattle.port_logic.specs.declared.op.Op.{Op}
-use Rattle.port_logic.specs.declared.op.Op.TheVariants.{Pair, Look, Keep}
 use Rattle.port_logic.specs.Ops.{IsFormIn, IsGate, IsOp, IsPairOf, AreOpsOf}
 use Rattle.port_logic.specs.code.Ops.{AreFormsOf, IsLookOf, IsTaskWithin, IsTabled, FitsOp}
+use Rattle.port_logic.specs.declared.op.Op.{Op, TheVariants.Pair, TheVariants.Look, TheVariants.Keep}
 use Rattle.port_logic.specs.code.Tasks.{IsTaskAtHand, IsAnswer}
 
 module _ {P F : Type 0} (is_pair : Table → V4 → V4 → P → Type 0) (is_form : Table → F → Type 0) where

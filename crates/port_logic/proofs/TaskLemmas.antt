@@ -3,28 +3,17 @@ use Rattle.std.proofs.Common.{◌≡◌, ◌∙◌, ℕ, ◌<◌, List, length, 
 use Rattle.std.proofs.lemmas.Option.{slice_get_within, slice_get-get_or}
 use Rattle.logic_four.specs.declared.V4.{V4}
 use Rattle.func_table.specs.declared.table.Table.{Table}
-use Rattle.image_defs.specs.declared.image.Source.{Source}
-use Rattle.image_defs.specs.declared.image.Task.{Task}
-use Rattle.image_defs.specs.declared.image.Task.TheVariants.{Eval, Hold}
-use Rattle.image_defs.specs.declared.image.Work.TheVariants.{Logic}
-use Rattle.image_defs.specs.declared.image.PortImage.{PortImage}
-use Rattle.image_defs.specs.declared.image.Image.{Image}
-use Rattle.net_defs.specs.declared.stimulus.Stimulus.{Stimulus}
 use Rattle.image_defs.specs.Places.{Each, task_slot, IsPort, IsItemIn}
 use Rattle.image_defs.specs.WellFormed.{IsWellFormed, IsOperand, IsTask, IsWork}
-use Rattle.image_defs.specs.Steps.{task_value, item_value, value_of_member}
 use Rattle.image_defs.specs.Ports.{View, PortView, CanExecute, lane_port, at_first, value_in}
+use Rattle.image_defs.specs.declared.image.{Source.Source, Task.Task, Task.TheVariants.Eval, Task.TheVariants.Hold, Work.TheVariants.Logic, PortImage.PortImage}
+use Rattle.image_defs.specs.{declared.image.Image.Image, Steps.task_value, Steps.item_value, Steps.value_of_member}
+use Rattle.net_defs.specs.declared.stimulus.Stimulus.{Stimulus}
 use Rattle.image_defs.proofs.lemmas.PlaceLemmas.{at_map}
-use Rattle.port_bank.specs.Flat.{place_count}
-use Rattle.port_bank.specs.Lanes.{InEach}
-use Rattle.port_bank.specs.Reads.{IsAtHand, now_in, past_in}
-use Rattle.port_bank.proofs.BankLemmas.{slot_low}
-use Rattle.port_bank.proofs.lemmas.LaneLemmas.{in_lane, in_each}
+use Rattle.port_bank.specs.{Flat.place_count, Lanes.InEach, Reads.IsAtHand, Reads.now_in, Reads.past_in}
+use Rattle.port_bank.proofs.{BankLemmas.slot_low, lemmas.LaneLemmas.in_lane, lemmas.LaneLemmas.in_each}
 use Rattle.port_bank.proofs.lemmas.TurnLemmas.{item_meets, there_within, operand_at_hand}
-use Rattle.port_logic.specs.declared.op.Op.{Op}
-use Rattle.port_logic.specs.Ops.{AreOps}
-use Rattle.port_logic.specs.code.Ops.{IsTaskWithin, IsTabled, FitsOp}
-use Rattle.port_logic.specs.Tasks.{IsReady}
+use Rattle.port_logic.specs.{declared.op.Op.Op, Ops.AreOps, code.Ops.IsTaskWithin, code.Ops.IsTabled, code.Ops.FitsOp, Tasks.IsReady}
 use Rattle.port_logic.specs.code.Tasks.{IsTaskAtHand, IsAnswer}
 use Rattle.port_logic.proofs.OpLemmas.{op_fits}
 

@@ -3,14 +3,9 @@
 use Rattle.std.specs.Prelude.{◌≡◌, ℕ, List, length, Option, Some, None, slice_get}
 use Rattle.logic_four.specs.declared.V4.{V4}
 use Rattle.func_table.specs.declared.table.Table.{Table}
-use Rattle.image_defs.specs.declared.image.Source.{Source}
-use Rattle.image_defs.specs.declared.image.Source.TheVariants.{Const}
-use Rattle.image_defs.specs.declared.image.Task.{Task}
-use Rattle.image_defs.specs.declared.image.Task.TheVariants.{Eval, Hold}
-use Rattle.port_bank.specs.Flat.{operand_of}
-use Rattle.port_bank.specs.declared.steps.Operand.{Operand}
-use Rattle.port_logic.specs.declared.op.Op.{Op}
-use Rattle.port_logic.specs.declared.op.Op.TheVariants.{Pair, Look, Keep}
+use Rattle.image_defs.specs.declared.image.{Source.Source, Source.TheVariants.Const, Task.Task, Task.TheVariants.Eval, Task.TheVariants.Hold}
+use Rattle.port_bank.specs.{Flat.operand_of, declared.steps.Operand.Operand}
+use Rattle.port_logic.specs.declared.op.Op.{Op, TheVariants.Pair, TheVariants.Look, TheVariants.Keep}
 
 -- it is what this table is known as, if there is one
 abbrev pub IsFormIn : {F : Type 0} → (Table → F → Type 0) → Option Table → F → Type 0

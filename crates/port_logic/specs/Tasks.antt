@@ -2,14 +2,9 @@
 use Rattle.std.specs.Prelude.{◌≡◌, ◌≤◌, List}
 use Rattle.logic_four.specs.declared.V4.{V4}
 use Rattle.func_table.specs.declared.table.Table.{Table}
-use Rattle.image_defs.specs.declared.image.Task.{Task}
-use Rattle.image_defs.specs.declared.image.Work.TheVariants.{Logic}
-use Rattle.image_defs.specs.declared.image.PortImage.{PortImage}
-use Rattle.image_defs.specs.Places.{IsPort}
-use Rattle.image_defs.specs.Ports.{View}
+use Rattle.image_defs.specs.{declared.image.Task.Task, declared.image.Work.TheVariants.Logic, declared.image.PortImage.PortImage, Places.IsPort, Ports.View}
 use Rattle.image_defs.specs.WellFormed.{IsWellFormed}
-use Rattle.port_logic.specs.declared.op.Op.{Op}
-use Rattle.port_logic.specs.Ops.{AreOps}
+use Rattle.port_logic.specs.{declared.op.Op.Op, Ops.AreOps}
 
 -- the bank is a logic processor's, and its tasks are laid flat
 pub record IsReady {P F S : Type 0} (is_pair : Table → V4 → V4 → P → Type 0) (is_form : Table → F → Type 0) (bank : View S) (tables : List Table) (tasks : List Task) (ops : List (Op P F)) : Type 0 where

@@ -1,12 +1,10 @@
 //! A logic processor in its run.
 
 ghost use Rattle.std.specs.Prelude.{◌≡◌, ◌<◌, ℕ, IfOk, None};
-ghost use Rattle.image_defs.specs.WellFormed.{IsWellFormed, IsPortOf, IsLogic};
 ghost use Rattle.image_defs.specs.Ports.{lane_port, at_first, after_begin, after_execute, after_receive, after_end, value_in, CanBegin, CanExecute, CanReceive, CanEnd};
-ghost use Rattle.port_bank.specs.Flat.{place_count};
-ghost use Rattle.port_bank.specs.Words.{InEachLane, InEachLaneOf, AreValues};
-ghost use Rattle.port_logic.specs.code.Ops.{FitsOp};
-ghost use Rattle.port_logic.specs.code.Tasks.{IsAnswer};
+ghost use Rattle.image_defs.specs.WellFormed.{IsWellFormed, IsPortOf, IsLogic};
+ghost use Rattle.port_bank.specs.{Flat.place_count, Words.InEachLane, Words.InEachLaneOf, Words.AreValues};
+ghost use Rattle.port_logic.specs.code.{Ops.FitsOp, Tasks.IsAnswer};
 
 use crate::op::{Op, forms_of, ops_of};
 use func_table::Table;

@@ -4,38 +4,21 @@ use Rattle.std.proofs.lemmas.Bool.{cases_eq}
 use mathlib.Core.Option.{some}
 use lib.ListN.{get_elem?}
 use Rattle.logic_four.specs.Values.{code_of}
-use Rattle.image_defs.specs.Frames.{image_value}
-use Rattle.image_defs.specs.Places.{IsPort}
-use Rattle.image_defs.specs.declared.image.Image.{Image}
-use Rattle.image_defs.specs.declared.image.LinkOut.{LinkOut}
-use Rattle.image_defs.specs.declared.image.PortImage.{PortImage}
+use Rattle.image_defs.specs.{Frames.image_value, Places.IsPort, declared.image.Image.Image, declared.image.LinkOut.LinkOut, declared.image.PortImage.PortImage}
 use Rattle.net_defs.specs.declared.stimulus.Stimulus.{Stimulus}
-use Rattle.event_defs.proofs.lemmas.KeptLemmas.{step_sound}
-use Rattle.event_defs.proofs.lemmas.PaceLemmas.{latest_missing, same_port, same_send}
-use Rattle.event_defs.proofs.lemmas.SlotLemmas.{updated_here, updated_there}
-use Rattle.event_defs.proofs.lemmas.WordLemmas.{found_stamp, stamp_in}
-use Rattle.event_defs.specs.Next.{SendsNext}
-use Rattle.event_defs.specs.Places.{IsSend, latest}
-use Rattle.event_defs.specs.Row.{send_number, word_place}
-use Rattle.event_defs.specs.Sound.{IsSound}
+use Rattle.event_defs.proofs.lemmas.{KeptLemmas.step_sound, PaceLemmas.latest_missing, PaceLemmas.same_port, PaceLemmas.same_send}
+use Rattle.event_defs.proofs.lemmas.{SlotLemmas.updated_here, SlotLemmas.updated_there, WordLemmas.found_stamp, WordLemmas.stamp_in}
 use Rattle.event_defs.specs.Steps.{CoreState, Moves, stamp_of, updated, written}
-use Rattle.event_defs.specs.declared.place.CoreStep.TheVariants.{Moved}
-use Rattle.event_defs.specs.declared.place.Event.{Event}
 use Rattle.event_defs.specs.declared.place.Event.TheVariants.{Ask, Put, Take, Tell}
-use Rattle.event_defs.specs.declared.place.Place.{Place}
+use Rattle.event_defs.specs.{Next.SendsNext, Places.IsSend, Places.latest, Row.send_number, Row.word_place, Sound.IsSound}
+use Rattle.event_defs.specs.declared.place.{CoreStep.TheVariants.Moved, Event.Event, Place.Place}
 use Rattle.atomic_table.proofs.Lists.{at_set}
 use Rattle.atomic_table.specs.Seated.{TableId}
-use Rattle.slot_words.proofs.LookLemmas.{told_progress, told_sent}
-use Rattle.slot_words.proofs.lemmas.SoundLemmas.{told_none}
-use Rattle.slot_words.proofs.StepLemmas.{sent_read}
 use Rattle.slot_words.proofs.lemmas.TimeLemmas.{progress_kept, progress_set, send_room, sent_set}
+use Rattle.slot_words.proofs.{LookLemmas.told_progress, LookLemmas.told_sent, lemmas.SoundLemmas.told_none, StepLemmas.sent_read}
 use Rattle.slot_words.specs.Layout.{progress_in, send_word, sent_in, told_in, turns_told}
-use Rattle.slot_words.specs.plain.Passes.{PassView}
-use Rattle.slot_words.specs.Rule.{HasPass, IsKept, IsPassOf}
-use Rattle.slot_words.specs.plain.Words.{plain, turns_of}
-use Rattle.slot_words.specs.plain.Sound.{PlainView}
-use Rattle.port_run.specs.Core.{IsCoreEvent, is_look, pass_in}
-use Rattle.port_run.specs.Steps.{IsEvent, Makes}
+use Rattle.slot_words.specs.{plain.Passes.PassView, Rule.HasPass, Rule.IsKept, Rule.IsPassOf, plain.Words.plain, plain.Words.turns_of, plain.Sound.PlainView}
+use Rattle.port_run.specs.{Core.IsCoreEvent, Core.is_look, Core.pass_in, Steps.IsEvent, Steps.Makes}
 
 -- the state of a core has these words, and in it the ports stand where these passes do
 pub record IsStateIn (image : Image) (stimulus : Stimulus) (banks : ℕ) (words : List ℕ) (views : List PlainView) (state : CoreState) : Type 0 where

@@ -1,31 +1,22 @@
 -- Each step of a running port is the core's, by the number that it found.
 use Rattle.std.proofs.Common.{ap, arith, inl, inr, length, mod-lt, refl, subst, sym, true, ℕ, ◌%◌, ◌*◌, ◌+◌, ◌<◌, ◌∙◌, ◌≡◌, ◌≤◌}
 use Rattle.logic_four.specs.Values.{code_of}
-use Rattle.image_defs.specs.Frames.{image_value}
-use Rattle.image_defs.specs.Places.{IsPort, Stands}
-use Rattle.image_defs.specs.declared.image.PortImage.{PortImage}
-use Rattle.event_defs.proofs.lemmas.NextLemmas.{one_next}
-use Rattle.event_defs.proofs.lemmas.PaceLemmas.{same_port}
-use Rattle.event_defs.proofs.lemmas.SlotLemmas.{updated_here}
-use Rattle.event_defs.proofs.lemmas.StampLemmas.{written_here}
+use Rattle.image_defs.specs.{Frames.image_value, Places.IsPort, Places.Stands, declared.image.PortImage.PortImage}
+use Rattle.event_defs.proofs.lemmas.{NextLemmas.one_next, PaceLemmas.same_port, SlotLemmas.updated_here, StampLemmas.written_here}
 use Rattle.event_defs.specs.Next.{AsksNext, IsNext, PutsNext, ReceivesNext, SendsNext, TellsNext}
 use Rattle.event_defs.specs.Places.{IsSend, after_ask, after_put, after_take, after_tell, known_of}
-use Rattle.event_defs.specs.Row.{send_number, word_place}
 use Rattle.event_defs.specs.Steps.{CoreState, Moves, Reads, Waits, stamp_of, updated, written}
-use Rattle.event_defs.specs.declared.place.Action.{Action}
-use Rattle.event_defs.specs.declared.place.Action.TheVariants as action
-use Rattle.event_defs.specs.declared.place.Event.{Event}
 use Rattle.event_defs.specs.declared.place.Event.TheVariants.{Ask, Put, Take, Tell}
-use Rattle.event_defs.specs.declared.place.Place.{Place}
+use Rattle.event_defs.specs.{Row.send_number, Row.word_place, declared.place.Action.Action, declared.place.Event.Event, declared.place.Place.Place}
 use Rattle.event_defs.specs.declared.place.CoreStep.TheVariants.{NotYet, Done}
+use Rattle.event_defs.specs.declared.place.Action.TheVariants as action
 use Rattle.list_laws.proofs.Members.{member_at}
 use Rattle.slot_words.proofs.StepLemmas.{same_places}
 use Rattle.port_run.proofs.lemmas.NextLemmas.{asked_again, asked_in}
-use Rattle.slot_words.specs.Layout.{progress_word, send_word}
-use Rattle.slot_words.specs.plain.Passes.{IsFit, PassView}
+use Rattle.slot_words.specs.{Layout.progress_word, Layout.send_word, plain.Passes.IsFit, plain.Passes.PassView}
 use Rattle.port_run.specs.Core.{IsCoreEvent, IsCoreStep, Shows, StandsIn, is_look}
-use Rattle.port_run.specs.Pairs.{HasMade}
 use Rattle.port_run.specs.Steps.{AskWaits, HasAsked, HasTaken, IsEvent, IsWait, Looks, Makes, Puts, TakeWaits, Tells, value_there, word_now}
+use Rattle.port_run.specs.Pairs.{HasMade}
 
 module _ (old : PassView) (fit : IsFit old) (state : CoreState) (stands : StandsIn old state) where
   here : (P : Place → Type 0) → P old.place → P (state.place old.port)

@@ -1,34 +1,25 @@
 -- A running port and its next event.
 use Rattle.std.proofs.Common.{List, None, Option, Some, MatchOption, ap, ap₂, arith, inl, inr, length, min, refl, subst, sym, ℕ, ◌+◌, ◌-◌, ◌*◌, ◌/◌, ◌<◌, ◌∙◌, ◌≡◌, ◌≢◌, ◌≤◌}
 use Rattle.std.proofs.Math.Nat.{mul-div_cancel_left}
-use Rattle.logic_four.specs.Values.{code_of}
-use Rattle.logic_four.specs.declared.V4.{V4}
+use Rattle.logic_four.specs.{Values.code_of, declared.V4.V4}
 use Rattle.net_defs.specs.Time.{cycle_count}
-use Rattle.image_defs.specs.Places.{host_of}
-use Rattle.image_defs.specs.declared.image.Image.{Image}
+use Rattle.image_defs.specs.{Places.host_of, declared.image.Image.Image}
 use Rattle.event_defs.specs.Places.{after_ask, after_put, after_take, start}
-use Rattle.event_defs.specs.declared.place.Action.{Action}
+use Rattle.event_defs.specs.declared.place.{Action.Action, Place.Place}
 use Rattle.event_defs.specs.declared.place.Action.TheVariants as action
 use Rattle.event_defs.specs.declared.place.Event.TheVariants as event
-use Rattle.event_defs.specs.declared.place.Place.{Place}
-use Rattle.crew_run.specs.declared.stepper.Step.{Step}
-use Rattle.crew_run.specs.declared.stepper.Step.TheVariants.{Done, Moved, NotYet}
+use Rattle.crew_run.specs.declared.stepper.Step.{Step, TheVariants.Done, TheVariants.Moved, TheVariants.NotYet}
 use Rattle.port_host.specs.Rows.{HostView}
 use Rattle.port_walk.specs.Placed.{CanTakeValue, HasPut, HasTaken, IsHostIn, IsNextOf, IsReceiving, IsSending, PlacedPort, at_start, block_end, in_next_block}
 use Rattle.port_walk.proofs.BlockLemmas.{end_low}
 use Rattle.list_laws.proofs.Members.{member_at}
-use Rattle.slot_words.specs.Layout.{progress_word}
-use Rattle.slot_words.specs.plain.Words.{turns_of}
 use Rattle.slot_words.specs.plain.Passes.{HasLooked, IsFit, IsPut, IsTake, PassView, one_step}
-use Rattle.slot_words.specs.declared.crossbar.Taken.{Taken}
+use Rattle.slot_words.specs.{Layout.progress_word, plain.Words.turns_of, declared.crossbar.Taken.Taken}
 use Rattle.slot_words.specs.declared.crossbar.Taken.TheVariants as taken
 use Rattle.port_run.specs.Pairs.{AreBegun, IsHostOf, RunView, first_block, next_block, placed, with_pass}
-use Rattle.port_run.specs.Kept.{IsKept, view_of}
-use Rattle.port_run.specs.declared.running.Running.TheInside.{Inside}
-use Rattle.port_run.proofs.lemmas.NextLemmas.{asked_in}
-use Rattle.port_run.proofs.lemmas.StepLemmas.{step_next}
 use Rattle.port_run.specs.Steps.{Asks, IsEvent, IsStepOf, IsWait, Looks, word_now}
-use Rattle.port_run.specs.code.Steps.{IsAnswer, IsUpcoming}
+use Rattle.port_run.specs.{Kept.IsKept, Kept.view_of, declared.running.Running.TheInside.Inside, code.Steps.IsAnswer, code.Steps.IsUpcoming}
+use Rattle.port_run.proofs.lemmas.{NextLemmas.asked_in, StepLemmas.step_next}
 
 -- ---- what it keeps
 

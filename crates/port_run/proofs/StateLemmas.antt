@@ -2,24 +2,14 @@
 use Rattle.std.proofs.Common.{List, Some, ap, inl, inr, length, refl, set, subst, sym, true, ℕ, ◌+◌, ◌∙◌, ◌≡◌, ◌≤◌}
 use mathlib.Core.Option.{some}
 use lib.ListN.{get_elem?}
-use Rattle.event_defs.specs.Steps.{CoreState}
-use Rattle.event_defs.specs.declared.place.CoreStep.TheVariants.{NotYet}
-use Rattle.event_defs.specs.declared.place.Event.{Event}
 use Rattle.event_defs.specs.declared.place.Event.TheVariants.{Ask, Put, Take, Tell}
-use Rattle.event_defs.specs.declared.place.Place.{Place}
-use Rattle.atomic_table.specs.Seated.{TableId}
-use Rattle.atomic_table.specs.Table.{Act, State, stepped}
-use Rattle.slot_words.proofs.LookLemmas.{counted_look, told_progress, told_sent}
-use Rattle.slot_words.proofs.PlainLemmas.{rule_sound}
-use Rattle.slot_words.proofs.StepLemmas.{sent_read}
-use Rattle.slot_words.specs.Layout.{told_in}
-use Rattle.slot_words.specs.plain.Passes.{IsFit, PassView}
+use Rattle.event_defs.specs.{Steps.CoreState, declared.place.CoreStep.TheVariants.NotYet, declared.place.Event.Event, declared.place.Place.Place}
+use Rattle.atomic_table.specs.{Seated.TableId, Table.Act, Table.State, Table.stepped}
+use Rattle.slot_words.proofs.{LookLemmas.counted_look, LookLemmas.told_progress, LookLemmas.told_sent, PlainLemmas.rule_sound, StepLemmas.sent_read}
 use Rattle.slot_words.specs.plain.Sound.{ArePassesSound, Kept, PlainKey, PlainView}
-use Rattle.slot_words.specs.Rule.{IsKept, IsPassOf}
-use Rattle.slot_words.specs.plain.Words.{plain, turns_of}
+use Rattle.slot_words.specs.{Layout.told_in, plain.Passes.IsFit, plain.Passes.PassView, Rule.IsKept, Rule.IsPassOf, plain.Words.plain, plain.Words.turns_of}
 use Rattle.slot_words.specs.declared.rule.Look.{Look}
-use Rattle.port_run.proofs.AfterLemmas.{IsStateIn, after_there}
-use Rattle.port_run.proofs.CoreLemmas.{core_event, core_wait}
+use Rattle.port_run.proofs.{AfterLemmas.IsStateIn, AfterLemmas.after_there, CoreLemmas.core_event, CoreLemmas.core_wait}
 use Rattle.port_run.specs.Core.{IsCoreEvent, IsCoreStep, IsStateOf, Shows, is_look, pass_in}
 use Rattle.port_run.specs.Steps.{IsEvent, IsWait}
 

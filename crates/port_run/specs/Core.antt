@@ -2,23 +2,13 @@
 use Rattle.std.specs.Prelude.{Bool, false, true, Some, length, ℕ, ◌<◌, ◌≡◌}
 use mathlib.Core.Option.{some}
 use lib.ListN.{get_elem?}
-use Rattle.image_defs.specs.Places.{IsPort}
-use Rattle.image_defs.specs.declared.image.LinkOut.{LinkOut}
-use Rattle.image_defs.specs.declared.image.PortImage.{PortImage}
-use Rattle.event_defs.specs.Places.{IsSend}
-use Rattle.event_defs.specs.Sound.{IsSound}
-use Rattle.event_defs.specs.Steps.{CoreState, IsStep}
-use Rattle.event_defs.specs.declared.place.CoreStep.{CoreStep}
-use Rattle.event_defs.specs.declared.place.CoreStep.TheVariants.{Moved}
-use Rattle.event_defs.specs.declared.place.Event.{Event}
+use Rattle.image_defs.specs.{Places.IsPort, declared.image.LinkOut.LinkOut, declared.image.PortImage.PortImage}
 use Rattle.event_defs.specs.declared.place.Event.TheVariants.{Ask, Put, Take, Tell}
-use Rattle.atomic_table.specs.Seated.{TableId}
-use Rattle.atomic_table.specs.Table.{State}
+use Rattle.event_defs.specs.{Places.IsSend, Sound.IsSound, Steps.CoreState, Steps.IsStep, declared.place.CoreStep.CoreStep}
+use Rattle.event_defs.specs.declared.place.{CoreStep.TheVariants.Moved, Event.Event}
+use Rattle.atomic_table.specs.{Seated.TableId, Table.State}
 use Rattle.slot_words.specs.Layout.{progress_in, progress_word, send_word, sent_in, turns_told}
-use Rattle.slot_words.specs.plain.Passes.{PassView}
-use Rattle.slot_words.specs.plain.Words.{turns_of}
-use Rattle.slot_words.specs.plain.Sound.{PlainKey, PlainView}
-use Rattle.slot_words.specs.declared.rule.Look.{Look}
+use Rattle.slot_words.specs.{plain.Passes.PassView, plain.Words.turns_of, plain.Sound.PlainKey, plain.Sound.PlainView, declared.rule.Look.Look}
 
 -- in this state of a core the word of the look has the number that the look found
 pub record Shows (pass : PassView) (state : CoreState) (look : Look) : Type 0 where

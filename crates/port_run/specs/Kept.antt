@@ -1,8 +1,7 @@
 -- What holds of the fields of a running port.
 use Rattle.std.specs.Prelude.{◌≡◌}
 use Rattle.port_walk.specs.Placed.{block_end}
-use Rattle.port_run.specs.Pairs.{RunView, placed}
-use Rattle.port_run.specs.declared.running.Running.TheInside.{Inside}
+use Rattle.port_run.specs.{Pairs.RunView, Pairs.placed, declared.running.Running.TheInside.Inside}
 
 abbrev pub view_of : Inside → RunView
 view_of a = record { pass = a.pass; window = a.port.window; first_row = a.port.first_row; until = a.port.until }

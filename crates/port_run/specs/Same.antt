@@ -2,8 +2,7 @@
 use Rattle.std.specs.Prelude.{Bool, ◌≡◌}
 use Rattle.event_defs.specs.declared.place.Event.{Event}
 use Rattle.slot_words.specs.plain.Passes.{CrossbarView}
-use Rattle.port_run.specs.Pairs.{RunView}
-use Rattle.port_run.specs.Steps.{IsEvent, ends_turn}
+use Rattle.port_run.specs.{Pairs.RunView, Steps.IsEvent, Steps.ends_turn}
 
 -- both are of the same crossbar, port, image and stimulus, and in the same block
 pub record IsSame (one_bar : CrossbarView) (one : RunView) (other_bar : CrossbarView) (other : RunView) : Type 0 where

@@ -1,24 +1,15 @@
 -- What a step of a running port does: the next event of its place, by the number that it finds or leaves in one
 -- word.
 use Rattle.std.specs.Prelude.{Bool, false, true, ℕ, ◌%◌, ◌*◌, ◌+◌, ◌<◌, ◌≡◌, ◌≤◌, ◌⊎◌}
-use Rattle.logic_four.specs.Values.{code_of}
-use Rattle.logic_four.specs.declared.V4.{V4}
-use Rattle.image_defs.specs.Frames.{image_value}
-use Rattle.image_defs.specs.Places.{IsPort}
-use Rattle.image_defs.specs.declared.image.Image.{Image}
-use Rattle.image_defs.specs.declared.image.LinkIn.{LinkIn}
-use Rattle.image_defs.specs.declared.image.LinkOut.{LinkOut}
+use Rattle.logic_four.specs.{Values.code_of, declared.V4.V4}
+use Rattle.image_defs.specs.{Frames.image_value, Places.IsPort, declared.image.Image.Image, declared.image.LinkIn.LinkIn, declared.image.LinkOut.LinkOut}
 use Rattle.image_defs.specs.declared.image.PortImage.{PortImage}
 use Rattle.event_defs.specs.Next.{AsksNext, PutsNext, TakesNext, TellsNext}
 use Rattle.event_defs.specs.Places.{IsSend, after_ask, after_put, after_take, after_tell}
-use Rattle.event_defs.specs.Steps.{stamp_of}
-use Rattle.event_defs.specs.declared.place.Event.{Event}
 use Rattle.event_defs.specs.declared.place.Event.TheVariants.{Ask, Put, Take, Tell}
-use Rattle.event_defs.specs.declared.place.Place.{Place}
-use Rattle.crew_run.specs.declared.stepper.Step.{Step}
-use Rattle.crew_run.specs.declared.stepper.Step.TheVariants.{Done, Moved, NotYet}
-use Rattle.slot_words.specs.Layout.{progress_word, send_word}
-use Rattle.slot_words.specs.plain.Passes.{PassView, one_step}
+use Rattle.event_defs.specs.{Steps.stamp_of, declared.place.Event.Event, declared.place.Place.Place}
+use Rattle.crew_run.specs.declared.stepper.Step.{Step, TheVariants.Done, TheVariants.Moved, TheVariants.NotYet}
+use Rattle.slot_words.specs.{Layout.progress_word, Layout.send_word, plain.Passes.PassView, plain.Passes.one_step}
 use Rattle.port_run.specs.Pairs.{HasMade}
 
 -- what the image has in a slot of the pass's port in its turn

@@ -3,21 +3,13 @@
 ghost use Rattle.std.specs.Prelude.{List, Some, slice_set, true, ℕ, ◌≡◌, ◌≤◌};
 ghost use mathlib.Core.Option.{some};
 ghost use lib.ListN.{get_elem?};
-ghost use Rattle.image_defs.specs.Places.{IsPort};
-ghost use Rattle.image_defs.specs.declared.image.PortImage.{PortImage};
-ghost use Rattle.event_defs.specs.Next.{IsNext};
-ghost use Rattle.event_defs.specs.Steps.{CoreState};
-ghost use Rattle.event_defs.specs.declared.place.Action.{Action};
-ghost use Rattle.event_defs.specs.declared.place.CoreStep.TheVariants.{Done, NotYet};
-ghost use Rattle.event_defs.specs.declared.place.Event.{Event};
-ghost use Rattle.atomic_table.specs.Seated.{TableId};
-ghost use Rattle.atomic_table.specs.Table.{Act, State, stepped};
-ghost use Rattle.slot_words.specs.plain.Passes.{IsFit, PassView};
-ghost use Rattle.slot_words.specs.plain.Sound.{Kept, PlainKey, PlainView};
-ghost use Rattle.slot_words.specs.plain.Words.{turns_of};
+ghost use Rattle.image_defs.specs.{Places.IsPort, declared.image.PortImage.PortImage};
+ghost use Rattle.event_defs.specs.{Next.IsNext, Steps.CoreState, declared.place.Action.Action};
+ghost use Rattle.event_defs.specs.declared.place.{CoreStep.TheVariants.Done, CoreStep.TheVariants.NotYet, Event.Event};
+ghost use Rattle.atomic_table.specs.{Seated.TableId, Table.Act, Table.State, Table.stepped};
+ghost use Rattle.slot_words.specs.plain.{Passes.IsFit, Passes.PassView, Sound.Kept, Sound.PlainKey, Sound.PlainView, Words.turns_of};
 ghost use Rattle.port_run.specs.Core.{IsCoreEvent, IsCoreStep, IsStateOf, Shows, StandsIn, is_look, pass_in};
-ghost use Rattle.port_run.specs.Pairs.{HasMade};
-ghost use Rattle.port_run.specs.Steps.{IsEvent, IsWait, value_there};
+ghost use Rattle.port_run.specs.{Pairs.HasMade, Steps.IsEvent, Steps.IsWait, Steps.value_there};
 
 /// A law: a step of a block is the core's, also that of a core that goes on after the block. Take any state
 /// of a core that has the block's last turn or a later one as its last turn, in which the port stands where it

@@ -3,12 +3,10 @@
 ghost use Rattle.std.specs.Prelude.{MatchOption, ◌+◌, ◌<◌, ◌≡◌, ◌≢◌, ◌≤◌, ◌↔◌, IsTrue};
 ghost use Rattle.image_defs.specs.Places.{host_of};
 ghost use Rattle.event_defs.specs.declared.place.Action.TheVariants as action;
-ghost use Rattle.slot_words.specs.plain.Passes.{IsFit, IsOf};
-ghost use Rattle.slot_words.specs.plain.Words.{turns_of};
+ghost use Rattle.slot_words.specs.plain.{Passes.IsFit, Passes.IsOf, Words.turns_of};
 ghost use Rattle.port_walk.specs.Placed.{CanGoOn};
 ghost use Rattle.port_run.specs.Pairs.{AreBegun, IsHostOf, first_block, next_block, placed, with_pass};
-ghost use Rattle.port_run.specs.Steps.{IsStepOf};
-ghost use Rattle.port_run.specs.code.Steps.{IsAnswer, IsUpcoming};
+ghost use Rattle.port_run.specs.{Steps.IsStepOf, code.Steps.IsAnswer, code.Steps.IsUpcoming};
 
 use crew_run::Step;
 use event_defs::Action;

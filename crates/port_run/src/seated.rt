@@ -21,8 +21,7 @@ const FEW_MEMBERS: usize = 3;
 impl<'a> Stepper for Seated<'a> {
     ghost use Rattle.std.specs.Prelude.{refl};
     ghost use Rattle.std.proofs.Common.{◌∙◌};
-    ghost use Rattle.port_run.specs.Same.{IsSame, Takes};
-    ghost use Rattle.port_run.specs.Steps.{IsShort};
+    ghost use Rattle.port_run.specs.{Same.IsSame, Same.Takes, Steps.IsShort};
 
     ghost same = { λ a b. IsSame a.bar.now a.run b.bar.now b.run };
 

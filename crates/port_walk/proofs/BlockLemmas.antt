@@ -1,22 +1,13 @@
 -- From block to block: where a block ends, what room the host has in it, and how the next one begins.
 use Rattle.std.proofs.Common.{◌≡◌, ◌∙◌, inl, inr, ℕ, ◌+◌, ◌-◌, ◌*◌, ◌/◌, ◌<◌, ◌≤◌, min, nat_le, [], ◌∷◌, ◌++◌, length, false, sym, ap, subst, refl, arith}
 use Rattle.std.proofs.Math.Nat.{min-eq_left, min-eq_right, min-le_left, min-le_right, mul-le-mul_left, mul-lt-mul_of_pos_left, div-le_of_le-mul}
-use Rattle.std.proofs.lemmas.Bool.{cases_lt}
-use Rattle.std.proofs.lemmas.Bool.Decides.{eqb_tells, leb_tells}
-use Rattle.std.proofs.lemmas.Nat.{div-mul-add}
-use Rattle.net_defs.specs.declared.stimulus.Stimulus.{Stimulus}
-use Rattle.net_defs.specs.Time.{cycle_count, turn_count}
-use Rattle.image_defs.specs.declared.image.Image.{Image}
-use Rattle.image_defs.specs.declared.image.LinkIn.{LinkIn}
-use Rattle.image_defs.specs.Steps.{timing_of}
-use Rattle.image_defs.specs.Ports.{View, at_first}
+use Rattle.std.proofs.lemmas.{Bool.cases_lt, Bool.Decides.eqb_tells, Bool.Decides.leb_tells, Nat.div-mul-add}
+use Rattle.net_defs.specs.{declared.stimulus.Stimulus.Stimulus, Time.cycle_count, Time.turn_count}
+use Rattle.image_defs.specs.{declared.image.Image.Image, declared.image.LinkIn.LinkIn, Steps.timing_of, Ports.View, Ports.at_first}
 use Rattle.port_bank.specs.Runs.{HasRoom}
-use Rattle.port_walk.specs.declared.any_port.AnyPort.TheInside.{Inside}
-use Rattle.port_walk.specs.Blocks.{placed, view_of, IsKept}
-use Rattle.port_walk.specs.Kinds.{rows_of}
 use Rattle.port_walk.specs.Placed.{PlacedPort, CanGoOn, CanPut, HasPut, HasTaken, IsReceiving, block_end}
-use Rattle.port_walk.specs.Walks.{Walked, HasRowRoom}
-use Rattle.port_walk.specs.code.Enters.{given_up, rests_no_more}
+use Rattle.port_walk.specs.{declared.any_port.AnyPort.TheInside.Inside, Blocks.placed, Blocks.view_of, Blocks.IsKept, Kinds.rows_of}
+use Rattle.port_walk.specs.{Walks.Walked, Walks.HasRowRoom, code.Enters.given_up, code.Enters.rests_no_more}
 use Rattle.port_walk.specs.Walks as walks
 
 pub le_late : (turn until : ℕ) → until < turn → nat_le turn until ≡ false

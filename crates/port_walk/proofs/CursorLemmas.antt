@@ -1,18 +1,14 @@
 -- What comes next, by how often a port has sent and received in its turn.
 use Rattle.std.proofs.Common.{◌≡◌, inl, inr, ℕ, zero, suc, ◌+◌, ◌<◌, ◌≤◌, Bool, true, false, List, [], ◌∷◌, take, ◌==◌, slice_get, Some, None, sym, ap, ◌∙◌, refl, arith}
-use Rattle.std.proofs.lemmas.Bool.{cases_lt, eqb-true}
-use Rattle.std.proofs.lemmas.Option.{slice_get_within, slice_get_cases}
+use Rattle.std.proofs.lemmas.{Bool.cases_lt, Bool.eqb-true, Option.slice_get_within, Option.slice_get_cases}
 use Rattle.list_laws.proofs.Ranges.{last_or}
-use Rattle.image_defs.specs.declared.image.LinkIn.{LinkIn}
-use Rattle.image_defs.specs.declared.image.LinkOut.{LinkOut}
-use Rattle.image_defs.specs.declared.image.PortImage.{PortImage}
+use Rattle.image_defs.specs.declared.image.{LinkIn.LinkIn, LinkOut.LinkOut, PortImage.PortImage}
 use Rattle.image_defs.specs.Places.{in_slots, out_slots}
 use Rattle.image_defs.proofs.lemmas.PlaceLemmas.{Rises, at_map}
-use Rattle.event_defs.specs.Places.{is_in}
 use Rattle.event_defs.specs.Next.{IsDoneBelow, SendsNext, ReceivesNext, EndsNext}
+use Rattle.event_defs.specs.Places.{is_in}
 use Rattle.event_defs.proofs.lemmas.SlotLemmas.{any_at, in_at, same_index, to_map}
-use Rattle.port_walk.specs.declared.stops.StopKind.{StopKind}
-use Rattle.port_walk.specs.declared.stops.StopKind.TheVariants.{Send, Receive, End}
+use Rattle.port_walk.specs.declared.stops.StopKind.{StopKind, TheVariants.Send, TheVariants.Receive, TheVariants.End}
 use Rattle.port_walk.specs.Stops.{kind_at, slot_at}
 use Rattle.port_walk.proofs.StopLemmas.{tells}
 

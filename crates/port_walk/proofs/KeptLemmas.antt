@@ -4,20 +4,15 @@ use Rattle.std.proofs.Math.Nat.{mul-le-mul}
 use Rattle.limits.specs.declared.TheConstants.{MAX_CYCLES, MAX_UNITS}
 use Rattle.logic_four.specs.declared.V4.{V4}
 use Rattle.net_defs.specs.Valid.{IsValidStimulus}
-use Rattle.image_defs.specs.declared.image.LinkOut.{LinkOut}
-use Rattle.image_defs.specs.Frames.{image_value}
 use Rattle.image_defs.specs.Ports.{View, lane_port, last_turn, value_in}
+use Rattle.image_defs.specs.{declared.image.LinkOut.LinkOut, Frames.image_value}
 use Rattle.event_defs.specs.Next.{IsNext}
 use Rattle.port_bank.specs.declared.word.Word as word
 use Rattle.port_bank.specs.Runs.{IsLastValue}
 use Rattle.port_bank.proofs.lemmas.LaneLemmas.{in_lane}
-use Rattle.port_walk.specs.declared.stops.Stop.{Stop}
-use Rattle.port_walk.specs.declared.stops.StopKind.TheVariants.{Send, Receive, End}
-use Rattle.port_walk.specs.declared.upcoming.Upcoming.{Upcoming}
-use Rattle.port_walk.specs.declared.upcoming.Upcoming.TheVariants.{Take, Tell}
-use Rattle.port_walk.specs.Kept.{Parts, view_of, IsKept}
-use Rattle.port_walk.specs.code.Readers.{IsNextOfSend}
-use Rattle.port_walk.specs.Stands.{place_of, action_of, IsNextOf}
+use Rattle.port_walk.specs.declared.stops.{Stop.Stop, StopKind.TheVariants.Send, StopKind.TheVariants.Receive, StopKind.TheVariants.End}
+use Rattle.port_walk.specs.declared.upcoming.Upcoming.{Upcoming, TheVariants.Take, TheVariants.Tell}
+use Rattle.port_walk.specs.{Kept.Parts, Kept.view_of, Kept.IsKept, code.Readers.IsNextOfSend, Stands.place_of, Stands.action_of, Stands.IsNextOf}
 use Rattle.port_walk.proofs.WalkLemmas.{end_here, last_here, next_sent, receipt_here, same_port_image}
 
 module _ {W P F S : Type 0} (m : word.Ghosts W P F S) where

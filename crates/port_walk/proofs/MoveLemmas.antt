@@ -1,36 +1,24 @@
 -- From stop to stop: what a port may do there, and what its walk keeps.
 use Rattle.std.proofs.Common.{◌≡◌, ℕ, ◌+◌, ◌-◌, ◌<◌, ◌≤◌, Bool, true, false, nat_le, if◌then◌else◌, List, length, take, get_or, slice_get, slice_range, Option, Some, sym, ap, ◌∙◌, subst, refl, arith}
+use Rattle.std.proofs.lemmas.{Bool.le-leb, Bool.leb-true, Option.slice_get-get_or, Option.slice_get_within}
 use Rattle.std.specs.List.Sorted.{IsStrictlyIncreasing}
-use Rattle.std.proofs.lemmas.Bool.{le-leb, leb-true}
-use Rattle.std.proofs.lemmas.Option.{slice_get-get_or, slice_get_within}
 use Rattle.list_laws.proofs.Places.{one_there}
 use Rattle.net_defs.specs.Valid.{IsValidStimulus}
-use Rattle.image_defs.specs.declared.image.LinkOut.{LinkOut}
-use Rattle.image_defs.specs.declared.image.PortImage.{PortImage}
 use Rattle.image_defs.specs.Places.{Each, IsPort, item_slots, in_slots, out_slots}
-use Rattle.image_defs.specs.WellFormed.{IsWellFormed, IsPortImage}
-use Rattle.image_defs.specs.Frames.{image_value}
 use Rattle.image_defs.specs.Ports.{View, lane_port, after_end, after_receive, last_turn, CanReceive, CanEnd}
+use Rattle.image_defs.specs.{declared.image.LinkOut.LinkOut, declared.image.PortImage.PortImage, WellFormed.IsWellFormed, WellFormed.IsPortImage}
+use Rattle.image_defs.specs.Frames.{image_value}
 use Rattle.image_defs.proofs.lemmas.PlaceLemmas.{rises}
 use Rattle.port_bank.specs.declared.word.Word as word
-use Rattle.port_bank.specs.Runs.{CanRun, HasRun, IsLastValue}
-use Rattle.port_bank.specs.Words.{InEachLane, InEachLaneOf}
+use Rattle.port_bank.specs.{Runs.CanRun, Runs.HasRun, Runs.IsLastValue, Words.InEachLane, Words.InEachLaneOf}
 use Rattle.port_bank.proofs.lemmas.LaneLemmas.{in_each, in_lane}
-use Rattle.port_walk.specs.declared.readers.Readers.{Readers}
-use Rattle.port_walk.specs.declared.stops.Stop.{Stop}
-use Rattle.port_walk.specs.declared.stops.StopKind.TheVariants.{Send}
-use Rattle.port_walk.specs.declared.upcoming.Upcoming.{Upcoming}
 use Rattle.port_walk.specs.Kept.{Parts, view_of, inner, IsKept}
-use Rattle.port_walk.specs.code.Readers.{IsNextOfSend}
-use Rattle.port_walk.specs.Rows.{AreReaders, IsRow, start_of}
-use Rattle.port_walk.specs.Stands.{CanPut, IsNextOf, IsEnding}
-use Rattle.port_walk.specs.Stops.{IsStop, AreStops, counts}
 use Rattle.port_walk.specs.Walks.{Walked, IsNextValue, CanTakeValue, HasPut, HasTaken}
-use Rattle.port_walk.specs.code.Enters.{CanEnter, HasEntered}
-use Rattle.port_walk.proofs.BlockLemmas.{le_late}
-use Rattle.port_walk.proofs.CursorLemmas.{received_before}
-use Rattle.port_walk.proofs.KeptLemmas.{holds_value, next_put}
+use Rattle.port_walk.specs.declared.{readers.Readers.Readers, stops.Stop.Stop, stops.StopKind.TheVariants.Send, upcoming.Upcoming.Upcoming}
+use Rattle.port_walk.specs.{code.Readers.IsNextOfSend, Rows.AreReaders, Rows.IsRow, Rows.start_of, Stands.CanPut, Stands.IsNextOf, Stands.IsEnding}
+use Rattle.port_walk.specs.{Stops.IsStop, Stops.AreStops, Stops.counts, code.Enters.CanEnter, code.Enters.HasEntered}
 use Rattle.port_walk.proofs.WalkLemmas.{IsAfter, IsLinkHere, after_receipt, after_send, all_done, can_run, ending_here, found, good, link_here, no_stop, puts_more, readers_there, receiving_here, sending_here, takes_more}
+use Rattle.port_walk.proofs.{BlockLemmas.le_late, CursorLemmas.received_before, KeptLemmas.holds_value, KeptLemmas.next_put}
 
 module _ {W P F S : Type 0} (m : word.Ghosts W P F S) (a : Parts W S) (kept : IsKept m a) (stop : Stop) (at : slice_get a.stops a.at ≡ Some stop) where
   -- the value of what it sends next

@@ -1,15 +1,10 @@
 -- What comes next of a plain port, whose Puts have values.
 use Rattle.std.proofs.Common.{◌≡◌, ◌∙◌, ℕ, List, ap, subst}
 use Rattle.logic_four.specs.declared.V4.{V4}
-use Rattle.image_defs.specs.declared.image.LinkOut.{LinkOut}
-use Rattle.image_defs.specs.Frames.{image_value}
+use Rattle.image_defs.specs.{declared.image.LinkOut.LinkOut, Frames.image_value}
 use Rattle.event_defs.specs.declared.place.Action.TheVariants as action
-use Rattle.port_walk.specs.declared.any_port.AnyPort.TheInside.{Inside}
-use Rattle.port_walk.specs.declared.upcoming.Upcoming.{Upcoming}
-use Rattle.port_walk.specs.declared.upcoming.Upcoming.TheVariants.{Put}
-use Rattle.port_walk.specs.Blocks.{view_of}
-use Rattle.port_walk.specs.Placed.{PlacedPort, IsNextOf}
-use Rattle.port_walk.specs.Stands.{IsSending, action_of}
+use Rattle.port_walk.specs.declared.{any_port.AnyPort.TheInside.Inside, upcoming.Upcoming.Upcoming, upcoming.Upcoming.TheVariants.Put}
+use Rattle.port_walk.specs.{Blocks.view_of, Placed.PlacedPort, Placed.IsNextOf, Stands.IsSending, Stands.action_of}
 use Rattle.port_walk.specs.Stands as stands
 
 module _ (a : Inside) (view : PlacedPort) (seen : view_of a ≡ view) (known : List ℕ) (banks : ℕ) (result : Upcoming) (next : stands.IsNextOf a.walk.stand known banks result) where

@@ -1,13 +1,11 @@
 -- The readers of all sends of a port, in one list.
 use Rattle.std.proofs.Common.{◌≡◌, inl, inr, ℕ, ◌+◌, ◌-◌, ◌*◌, ◌<◌, ◌≤◌, List, [], ◌∷◌, ◌++◌, length, take, drop, get_or, slice_get, Some, sym, ap, ◌∙◌, subst, arith, length-append}
-use Rattle.std.proofs.Math.Seq.{drop-append_seam, take-length}
 use Rattle.std.proofs.lemmas.List.{length_push, length-drop, drop-append-le, take-append-le, get_or_append_left, get_or_push}
-use Rattle.list_laws.proofs.Places.{one_there}
-use Rattle.list_laws.proofs.Ranges.{last_or}
+use Rattle.std.proofs.Math.Seq.{drop-append_seam, take-length}
+use Rattle.list_laws.proofs.{Places.one_there, Ranges.last_or}
 use Rattle.limits.specs.declared.TheConstants.{MAX_PORTS}
 use Rattle.image_defs.specs.declared.image.LinkOut.{LinkOut}
-use Rattle.port_walk.specs.Rows.{IsRow, AreReaders}
-use Rattle.port_walk.specs.code.Stops.{HasFewReaders}
+use Rattle.port_walk.specs.{Rows.IsRow, Rows.AreReaders, code.Stops.HasFewReaders}
 
 -- what stands in a list before its end stands there in a longer one
 pub row_stays : (all more : List ℕ) (from to : ℕ) (row : List ℕ) → IsRow all from to row → IsRow (all ++ more) from to row

@@ -1,18 +1,13 @@
 -- The stops of a turn.
 use Rattle.std.proofs.Common.{◌≡◌, inl, inr, ℕ, ◌+◌, ◌-◌, ◌<◌, ◌≤◌, Bool, if◌then◌else◌, List, [], ◌∷◌, ◌++◌, length, slice_get, Option, Some, None, sym, ap, ◌∙◌, subst, refl, arith, add-one}
+use Rattle.std.proofs.lemmas.{Bool.cases_lt, Bool.Decides.leb_tells, List.length_push, Option.slice_get_cases, Option.slice_get_within}
 use Rattle.std.specs.List.Sorted.{IsStrictlyIncreasing}
-use Rattle.std.proofs.lemmas.Bool.{cases_lt}
-use Rattle.std.proofs.lemmas.Bool.Decides.{leb_tells}
-use Rattle.std.proofs.lemmas.List.{length_push}
-use Rattle.std.proofs.lemmas.Option.{slice_get_cases, slice_get_within}
 use Rattle.list_laws.proofs.Places.{one_there, past_end, at_front, seam_at}
 use Rattle.list_laws.proofs.Ranges.{last_or}
 use Rattle.image_defs.proofs.lemmas.PlaceLemmas.{rises}
 use Rattle.port_bank.proofs.BankLemmas.{place_low}
-use Rattle.port_walk.specs.declared.stops.Stop.{Stop}
-use Rattle.port_walk.specs.declared.stops.StopKind.{StopKind}
-use Rattle.port_walk.specs.declared.stops.StopKind.TheVariants.{Send, Receive, End}
 use Rattle.port_walk.specs.Stops.{IsFront, kind_of, slot_of, counted, kind_at, slot_at, counts, IsStop, AreFirstStops, AreStops}
+use Rattle.port_walk.specs.declared.stops.{Stop.Stop, StopKind.StopKind, StopKind.TheVariants.Send, StopKind.TheVariants.Receive, StopKind.TheVariants.End}
 use Rattle.port_walk.specs.code.Stops.{ArePlaces, AreAllBefore, IsOnTheWay}
 
 -- ---- ascending slots up to a bound

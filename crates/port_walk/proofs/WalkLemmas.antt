@@ -1,39 +1,28 @@
 -- A port at a stop of its turn: what comes next there, and which stop is after it, whatever values the port has.
 use Rattle.std.proofs.Common.{◌≡◌, inl, inr, ℕ, ◌*◌, ◌+◌, ◌-◌, ◌<◌, ◌≤◌, List, [], ◌∷◌, ◌++◌, length, take, get_or, slice_get, Some, sym, ap, ◌∙◌, subst, refl, arith}
-use Rattle.std.proofs.lemmas.Bool.{cases_lt, le-leb}
-use Rattle.std.proofs.lemmas.List.{length-map, take_more}
 use Rattle.std.proofs.lemmas.Option.{slice_get_within, slice_get-get_or, slice_get_cases, get_or_from_slice_get}
+use Rattle.std.proofs.lemmas.{Bool.cases_lt, Bool.le-leb, List.length-map, List.take_more}
 use Rattle.list_laws.proofs.Places.{one_there, past_end}
 use Rattle.limits.specs.declared.TheConstants.{MAX_SLOTS}
 use Rattle.logic_four.specs.declared.V4.{V4}
-use Rattle.image_defs.specs.declared.image.Image.{Image}
-use Rattle.image_defs.specs.declared.image.LinkIn.{LinkIn}
-use Rattle.image_defs.specs.declared.image.LinkOut.{LinkOut}
-use Rattle.image_defs.specs.declared.image.PortImage.{PortImage}
 use Rattle.image_defs.specs.Places.{Each, IsPort, item_slots, in_slots, out_slots}
-use Rattle.image_defs.specs.WellFormed.{IsPortImage, IsWellFormed}
-use Rattle.image_defs.specs.Ports.{View, lane_port}
+use Rattle.image_defs.specs.declared.image.{Image.Image, LinkIn.LinkIn, LinkOut.LinkOut, PortImage.PortImage}
+use Rattle.image_defs.specs.{WellFormed.IsPortImage, WellFormed.IsWellFormed, Ports.View, Ports.lane_port}
 use Rattle.port_bank.specs.declared.word.Word as word
 use Rattle.image_defs.proofs.lemmas.PlaceLemmas.{Rises, rises, at_map}
 use Rattle.event_defs.specs.Next.{SendsNext, ReceivesNext, EndsNext, IsNext}
 use Rattle.event_defs.proofs.lemmas.NextLemmas.{sends_one, receives_one, sends_not_receives, sends_not_ends, receives_not_ends}
-use Rattle.event_defs.proofs.lemmas.PaceLemmas.{same_port}
-use Rattle.event_defs.proofs.lemmas.SlotLemmas.{to_map}
-use Rattle.port_walk.specs.declared.readers.Readers.{Readers}
-use Rattle.port_walk.specs.declared.stops.Stop.{Stop}
-use Rattle.port_walk.specs.declared.stops.StopKind.{StopKind}
-use Rattle.port_walk.specs.declared.stops.StopKind.TheVariants.{Send, Receive, End}
-use Rattle.port_walk.specs.declared.upcoming.Upcoming.{Upcoming}
+use Rattle.event_defs.proofs.lemmas.{PaceLemmas.same_port, SlotLemmas.to_map}
 use Rattle.port_walk.specs.declared.upcoming.Upcoming.TheVariants.{Ask, Put, Take, Tell, Done}
-use Rattle.port_bank.specs.Runs.{CanRun}
-use Rattle.port_bank.specs.Words.{InEachLane}
-use Rattle.port_bank.proofs.lemmas.LaneLemmas.{in_each}
-use Rattle.port_walk.specs.code.Readers.{IsNextOfSend}
-use Rattle.port_walk.specs.Rows.{AreReaders, IsRow, start_of}
 use Rattle.port_walk.specs.Kept.{Parts, inner, view_of, IsKept}
 use Rattle.port_walk.specs.Stands.{action_of, IsEnding, IsReceiving, IsSending}
 use Rattle.port_walk.specs.Stops.{AreStops, IsFront, IsStop, counts, kind_at, slot_at}
+use Rattle.port_walk.specs.declared.{readers.Readers.Readers, stops.Stop.Stop, stops.StopKind.StopKind}
+use Rattle.port_walk.specs.declared.stops.StopKind.TheVariants.{Send, Receive, End}
+use Rattle.port_walk.specs.{declared.upcoming.Upcoming.Upcoming, code.Readers.IsNextOfSend, Rows.AreReaders, Rows.IsRow, Rows.start_of}
 use Rattle.port_walk.specs.code.Stops.{ArePlaces, HasFewReaders}
+use Rattle.port_bank.specs.{Runs.CanRun, Words.InEachLane}
+use Rattle.port_bank.proofs.lemmas.LaneLemmas.{in_each}
 use Rattle.port_walk.proofs.StopLemmas.{places_few, tells, counts_more, send_grows, receipt_grows}
 use Rattle.port_walk.proofs.CursorLemmas.{next_send, next_receipt, next_end, received_before}
 

@@ -1,13 +1,8 @@
 -- What a plain port with its place keeps: the end of its block, and as the host the rows of it.
 use Rattle.std.specs.Prelude.{◌≡◌, ℕ, ◌≤◌}
-use Rattle.net_defs.specs.declared.stimulus.Stimulus.{Stimulus}
-use Rattle.net_defs.specs.Time.{cycle_count}
-use Rattle.net_defs.specs.Valid.{IsValidStimulus}
+use Rattle.net_defs.specs.{declared.stimulus.Stimulus.Stimulus, Time.cycle_count, Valid.IsValidStimulus}
 use Rattle.image_defs.specs.WellFormed.{IsWellFormed}
-use Rattle.port_walk.specs.declared.any_port.AnyPort.TheInside.{Inside}
-use Rattle.port_walk.specs.Kinds.{rows_of}
-use Rattle.port_walk.specs.Placed.{PlacedPort, block_end}
-use Rattle.port_walk.specs.Walks.{Walked}
+use Rattle.port_walk.specs.{declared.any_port.AnyPort.TheInside.Inside, Kinds.rows_of, Placed.PlacedPort, Placed.block_end, Walks.Walked}
 
 -- the port of a walk, in the block behind so many cycles
 abbrev pub placed : ℕ → ℕ → Walked Stimulus → PlacedPort

@@ -1,18 +1,11 @@
 -- What a walk keeps: its port has executed all items up to its next stop, and no others.
 use Rattle.std.specs.Prelude.{◌≡◌, ℕ, ◌+◌, ◌<◌, ◌≤◌, nat_le, take, List, length, Option, Some, slice_get}
 use Rattle.net_defs.specs.Valid.{IsValidStimulus}
-use Rattle.image_defs.specs.declared.image.PortImage.{PortImage}
 use Rattle.image_defs.specs.Places.{IsPort, item_slots, in_slots, out_slots}
-use Rattle.image_defs.specs.WellFormed.{IsWellFormed}
-use Rattle.image_defs.specs.Ports.{View, last_turn}
+use Rattle.image_defs.specs.{declared.image.PortImage.PortImage, WellFormed.IsWellFormed, Ports.View, Ports.last_turn}
 use Rattle.port_bank.specs.declared.word.Word as word
-use Rattle.port_bank.specs.Runs.{IsLastValue}
-use Rattle.port_bank.specs.Words.{InEachLane, InEachLaneOf}
-use Rattle.port_walk.specs.declared.readers.Readers.{Readers}
-use Rattle.port_walk.specs.declared.stops.Stop.{Stop}
-use Rattle.port_walk.specs.Rows.{AreReaders}
-use Rattle.port_walk.specs.Stops.{counts, AreStops}
-use Rattle.port_walk.specs.Walks.{Walked}
+use Rattle.port_bank.specs.{Runs.IsLastValue, Words.InEachLane, Words.InEachLaneOf}
+use Rattle.port_walk.specs.{declared.readers.Readers.Readers, declared.stops.Stop.Stop, Rows.AreReaders, Stops.counts, Stops.AreStops, Walks.Walked}
 
 -- what it has of its port: how far that has come, its rows, what the image says of it; and its own lists, numbers and
 -- the value of the last item

@@ -1,9 +1,7 @@
 -- A plain port of any kind.
 use Rattle.std.specs.Prelude.{ℕ, ◌+◌, ◌==◌, if◌then◌else◌, length, Option, None, Some}
-use Rattle.image_defs.specs.declared.image.Image.{Image}
-use Rattle.image_defs.specs.Ports.{PortView}
-use Rattle.port_walk.specs.declared.kind.Kind.{Kind}
-use Rattle.port_walk.specs.declared.kind.Kind.TheVariants.{Logic, Array, Host}
+use Rattle.image_defs.specs.{declared.image.Image.Image, Ports.PortView}
+use Rattle.port_walk.specs.declared.kind.Kind.{Kind, TheVariants.Logic, TheVariants.Array, TheVariants.Host}
 
 -- how far it has come
 abbrev pub view_in : Kind → PortView

@@ -1,18 +1,10 @@
 -- A port with its place in the turn, as contracts see it, and what comes next.
 use Rattle.std.specs.Prelude.{◌≡◌, ℕ, ◌+◌, ◌*◌, ◌<◌, min, List, [], ◌∷◌, ◌++◌}
 use Rattle.logic_four.specs.declared.V4.{V4}
-use Rattle.net_defs.specs.declared.stimulus.Stimulus.{Stimulus}
-use Rattle.net_defs.specs.Time.{cycle_count, turn_count}
-use Rattle.image_defs.specs.declared.image.LinkIn.{LinkIn}
-use Rattle.image_defs.specs.declared.image.LinkOut.{LinkOut}
-use Rattle.image_defs.specs.declared.image.PortImage.{PortImage}
-use Rattle.image_defs.specs.declared.image.Image.{Image}
-use Rattle.image_defs.specs.Places.{IsPort, host_of}
-use Rattle.image_defs.specs.Steps.{timing_of}
-use Rattle.image_defs.specs.Frames.{image_value}
-use Rattle.event_defs.specs.declared.place.Place.{Place}
-use Rattle.event_defs.specs.declared.place.Action.{Action}
-use Rattle.event_defs.specs.Next.{IsNext}
+use Rattle.net_defs.specs.{declared.stimulus.Stimulus.Stimulus, Time.cycle_count, Time.turn_count}
+use Rattle.image_defs.specs.declared.image.{LinkIn.LinkIn, LinkOut.LinkOut, PortImage.PortImage, Image.Image}
+use Rattle.image_defs.specs.{Places.IsPort, Places.host_of, Steps.timing_of, Frames.image_value}
+use Rattle.event_defs.specs.{declared.place.Place.Place, declared.place.Action.Action, Next.IsNext}
 use Rattle.port_host.specs.Rows.{HostView}
 use Rattle.port_walk.specs.Stands.{Stand}
 use Rattle.port_walk.specs.Stands as stands

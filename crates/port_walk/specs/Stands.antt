@@ -2,15 +2,11 @@
 -- the same.
 use Rattle.std.specs.Prelude.{◌≡◌, ℕ, ◌≤◌, List}
 use Rattle.logic_four.specs.declared.V4.{V4}
-use Rattle.image_defs.specs.declared.image.LinkIn.{LinkIn}
-use Rattle.image_defs.specs.declared.image.LinkOut.{LinkOut}
-use Rattle.image_defs.specs.declared.image.PortImage.{PortImage}
-use Rattle.image_defs.specs.declared.image.Image.{Image}
+use Rattle.image_defs.specs.declared.image.{LinkIn.LinkIn, LinkOut.LinkOut, PortImage.PortImage, Image.Image}
 use Rattle.image_defs.specs.Places.{IsPort}
-use Rattle.event_defs.specs.declared.place.Place.{Place}
-use Rattle.event_defs.specs.declared.place.Action.{Action}
 use Rattle.event_defs.specs.declared.place.Action.TheVariants.{Ask, Put, Take, Tell, Done}
 use Rattle.event_defs.specs.Next.{SendsNext, ReceivesNext, EndsNext, IsNext}
+use Rattle.event_defs.specs.declared.place.{Place.Place, Action.Action}
 use Rattle.port_walk.specs.declared.upcoming.Upcoming.{Upcoming}
 use Rattle.port_walk.specs.declared.upcoming.Upcoming.TheVariants as upcoming
 

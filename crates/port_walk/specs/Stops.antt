@@ -1,8 +1,6 @@
 -- The stops of a turn, by the slots in which a port sends, receives and has items.
 use Rattle.std.specs.Prelude.{◌≡◌, ℕ, zero, suc, ◌+◌, ◌<◌, ◌≤◌, nat_le, if◌then◌else◌, List, length, Option, Some, None, slice_get}
-use Rattle.port_walk.specs.declared.stops.Stop.{Stop}
-use Rattle.port_walk.specs.declared.stops.StopKind.{StopKind}
-use Rattle.port_walk.specs.declared.stops.StopKind.TheVariants.{Send, Receive, End}
+use Rattle.port_walk.specs.declared.stops.{Stop.Stop, StopKind.StopKind, StopKind.TheVariants.Send, StopKind.TheVariants.Receive, StopKind.TheVariants.End}
 
 -- ascending slots: the first n of them, and no others, are before this bound
 pub record IsFront (slots : List ℕ) (bound n : ℕ) : Type 0 where

@@ -1,12 +1,8 @@
 -- A port of any kind that walks through its turns, plain or packed, as the contracts of its walk see it.
 use Rattle.std.specs.Prelude.{◌≡◌, ℕ, ◌+◌, [], ◌∷◌, ◌++◌, Option}
-use Rattle.image_defs.specs.declared.image.LinkIn.{LinkIn}
-use Rattle.image_defs.specs.declared.image.LinkOut.{LinkOut}
-use Rattle.image_defs.specs.Frames.{image_value}
-use Rattle.image_defs.specs.Ports.{View, at_first}
+use Rattle.image_defs.specs.{declared.image.LinkIn.LinkIn, declared.image.LinkOut.LinkOut, Frames.image_value, Ports.View, Ports.at_first}
 use Rattle.port_bank.specs.declared.word.Word as word
-use Rattle.port_bank.specs.Lanes.{InEach}
-use Rattle.port_bank.specs.Runs.{HasRoom}
+use Rattle.port_bank.specs.{Lanes.InEach, Runs.HasRoom}
 use Rattle.port_walk.specs.Stands.{Stand, IsSending, IsReceiving}
 
 -- what it runs with, of the host how many rows it keeps at most and how many it has given up, and where it stands

@@ -2,8 +2,7 @@
 
 ghost use Rattle.std.specs.Prelude.{◌≡◌, ◌≢◌, ◌+◌, ◌*◌, ◌<◌, ◌≤◌, min, length, IfOk, MatchOption};
 ghost use Rattle.net_defs.specs.Valid.{IsValidStimulus};
-ghost use Rattle.image_defs.specs.Places.{host_of};
-ghost use Rattle.image_defs.specs.WellFormed.{IsWellFormed};
+ghost use Rattle.image_defs.specs.{Places.host_of, WellFormed.IsWellFormed};
 ghost use Rattle.port_walk.specs.Placed.{at_start, in_next_block, in_next_turn, IsNextOf, CanGoOn, CanPut, CanTake, CanTakeValue, IsEnding, HasPut, HasTaken, IsNextSend, IsNextReceipt, IsHostIn};
 
 use crate::kind::{Kind, first_kind};

@@ -4,9 +4,7 @@ ghost use Rattle.std.specs.Prelude.{◌≡◌, ◌<◌, ◌≤◌, length, IfOk}
 ghost use Rattle.net_defs.specs.Valid.{IsValidStimulus};
 ghost use Rattle.image_defs.specs.WellFormed.{IsWellFormed};
 ghost use Rattle.port_host.specs.Rows.{rows_done};
-ghost use Rattle.port_walk.specs.code.Enters.{given_up};
-ghost use Rattle.port_walk.specs.Kinds.{view_in, rows_in};
-ghost use Rattle.port_walk.specs.code.Kinds.{IsFirst};
+ghost use Rattle.port_walk.specs.{code.Enters.given_up, Kinds.view_in, Kinds.rows_in, code.Kinds.IsFirst};
 
 use image_defs::{Image, Work};
 use logic_four::V4;

@@ -3,8 +3,7 @@
 ghost use Rattle.std.specs.Prelude.{◌≡◌, ℕ, length, IfOk};
 ghost use Rattle.image_defs.specs.Places.{IsPort, item_slots, in_slots, out_slots};
 ghost use Rattle.image_defs.specs.WellFormed.{IsWellFormed};
-ghost use Rattle.port_walk.specs.Rows.{AreReaders};
-ghost use Rattle.port_walk.specs.Stops.{AreStops};
+ghost use Rattle.port_walk.specs.{Rows.AreReaders, Stops.AreStops};
 
 use crate::readers::{Readers, readers_of};
 use crate::stops::{Stop, slots_of, stops_of};

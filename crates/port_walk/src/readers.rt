@@ -4,9 +4,7 @@ ghost use Rattle.std.specs.Prelude.{◌≡◌, ◌↔◌, ◌+◌, ◌-◌, ◌<
 ghost use Rattle.std.specs.List.Sorted.{IsStrictlyIncreasing};
 ghost use Rattle.limits.specs.declared.TheConstants.{MAX_SLOTS, MAX_PORTS};
 ghost use Rattle.image_defs.specs.Places.{Each};
-ghost use Rattle.port_walk.specs.code.Readers.{NoneLags, IsFirstLagging};
-ghost use Rattle.port_walk.specs.Rows.{AreReaders, start_of};
-ghost use Rattle.port_walk.specs.code.Stops.{HasFewReaders};
+ghost use Rattle.port_walk.specs.{code.Readers.NoneLags, code.Readers.IsFirstLagging, Rows.AreReaders, Rows.start_of, code.Stops.HasFewReaders};
 
 use image_defs::LinkOut;
 use seen_list::{List, Memory};

@@ -2,19 +2,13 @@
 
 ghost use Rattle.std.specs.Prelude.{◌≡◌, ◌+◌, ◌<◌, ◌≤◌, ℕ, Bool, length};
 ghost use Rattle.std.specs.List.Sorted.{IsStrictlyIncreasing};
-ghost use Rattle.net_defs.specs.Time.{turn_count};
-ghost use Rattle.net_defs.specs.Valid.{IsValidStimulus};
+ghost use Rattle.net_defs.specs.{Time.turn_count, Valid.IsValidStimulus};
 ghost use Rattle.image_defs.specs.Places.{Each, IsPort, item_slots, in_slots, out_slots};
-ghost use Rattle.image_defs.specs.Ports.{at_first, last_turn};
-ghost use Rattle.image_defs.specs.Steps.{timing_of};
-ghost use Rattle.image_defs.specs.WellFormed.{IsWellFormed};
-ghost use Rattle.port_bank.specs.Runs.{CanRun, HasRun, IsLastValue};
-ghost use Rattle.port_bank.specs.Words.{InEachLane, InEachLaneOf};
-ghost use Rattle.port_walk.specs.code.Readers.{IsNextOfSend};
-ghost use Rattle.port_walk.specs.Rows.{AreReaders};
+ghost use Rattle.image_defs.specs.{Ports.at_first, Ports.last_turn, Steps.timing_of, WellFormed.IsWellFormed};
+ghost use Rattle.port_bank.specs.{Runs.CanRun, Runs.HasRun, Runs.IsLastValue, Words.InEachLane, Words.InEachLaneOf};
 ghost use Rattle.port_walk.specs.Stands.{IsNextOf, IsNextSend, IsNextReceipt, IsEnding, CanPut, CanTake};
-ghost use Rattle.port_walk.specs.Stops.{AreStops};
 ghost use Rattle.port_walk.specs.Walks.{started, in_next_turn, HasPut, HasTaken, HasRowRoom, IsWithin, IsNextValue, CanTakeValue};
+ghost use Rattle.port_walk.specs.{code.Readers.IsNextOfSend, Rows.AreReaders, Stops.AreStops};
 ghost use Rattle.port_walk.specs.code.Enters.{rests_no_more, CanEnter, HasEntered};
 
 use crate::kind::{Kind, give_up};
@@ -46,8 +40,7 @@ pub struct Walk<'a, W: Word, P: Port<W>> {
 }
 
 impl<'a, W: Word, P: Port<W>> Model for Walk<'a, W, P> {
-    ghost use Rattle.port_walk.specs.Walks.{Walked};
-    ghost use Rattle.port_walk.specs.Kept.{view_of, IsKept};
+    ghost use Rattle.port_walk.specs.{Walks.Walked, Kept.view_of, Kept.IsKept};
 
     ghost Value = { Walked W.Feed };
 

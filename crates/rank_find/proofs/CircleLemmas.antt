@@ -1,15 +1,9 @@
 -- Where a gate waits for one that is on the path already, the path from there on is a loop.
 use Rattle.std.proofs.Common.{◌≡◌, ◌≢◌, ◌∙◌, ℕ, ◌+◌, ◌-◌, ◌<◌, ◌≤◌, ◌⊎◌, inl, inr, if◌then◌else◌, List, length, get_or, sym, ap, subst, arith}
+use Rattle.std.proofs.lemmas.{Bool.cases_lt, Bool.Decides.leb_tells, List.get_or_default}
 use Rattle.std.specs.List.{Contains}
-use Rattle.std.proofs.lemmas.Bool.{cases_lt}
-use Rattle.std.proofs.lemmas.Bool.Decides.{leb_tells}
-use Rattle.std.proofs.lemmas.List.{get_or_default}
-use Rattle.net_defs.specs.declared.netlist.Netlist.{Netlist}
-use Rattle.net_defs.specs.declared.timing.Timing.{Timing}
-use Rattle.net_defs.specs.Loops.{IsGate, waits_for, IsLoop}
-use Rattle.rank_find.specs.declared.walk.Mark.{Mark}
-use Rattle.rank_find.specs.code.Walk.{IsWalk}
-use Rattle.rank_find.specs.code.Circle.{place_of_member, IsCircleOn, IsLeastPlace}
+use Rattle.net_defs.specs.{declared.netlist.Netlist.Netlist, declared.timing.Timing.Timing, Loops.IsGate, Loops.waits_for, Loops.IsLoop}
+use Rattle.rank_find.specs.{declared.walk.Mark.Mark, code.Walk.IsWalk, code.Circle.place_of_member, code.Circle.IsCircleOn, code.Circle.IsLeastPlace}
 use Rattle.list_laws.proofs.Differ.{differ_at}
 use Rattle.rank_find.proofs.WalkLemmas.{marked_gate}
 

@@ -1,20 +1,16 @@
 -- There is an order or a loop: the walk, step by step, with what is left of it as the fuel.
 use Rattle.std.proofs.Common.{◌≡◌, ◌≢◌, ◌∙◌, ℕ, zero, suc, ◌+◌, ◌-◌, ◌<◌, ◌≤◌, ◌⊎◌, inl, inr, List, [], ◌∷◌, ◌++◌, length, take, map, get_or, set, refl, sym, ap, subst, arith}
-use Rattle.std.specs.List.{Contains, range_with_len}
-use Rattle.std.proofs.lemmas.Bool.{cases_lt}
 use Rattle.std.proofs.lemmas.List.{get_or_past, take_more, take_all, length_push}
-use Rattle.std.proofs.lemmas.List.FromFn.{length-map-range_with_len, get_or-map-range_with_len}
-use Rattle.net_defs.specs.declared.netlist.Netlist.{Netlist}
-use Rattle.net_defs.specs.declared.timing.Timing.{Timing}
+use Rattle.std.proofs.lemmas.{Bool.cases_lt, List.FromFn.length-map-range_with_len, List.FromFn.get_or-map-range_with_len}
+use Rattle.std.specs.List.{Contains, range_with_len}
 use Rattle.net_defs.specs.Loops.{IsGate, waits_for, IsOrder, OrderOrLoop}
-use Rattle.rank_find.specs.declared.walk.Mark.{Mark}
-use Rattle.rank_find.specs.declared.walk.Mark.TheVariants.{Fresh, Open, Done}
+use Rattle.net_defs.specs.declared.{netlist.Netlist.Netlist, timing.Timing.Timing}
 use Rattle.rank_find.specs.code.Walk.{mark_at, first_mark, work_left, IsWalk}
+use Rattle.rank_find.specs.declared.walk.Mark.{Mark, TheVariants.Fresh, TheVariants.Open, TheVariants.Done}
 use Rattle.rank_find.specs.code.Circle.{place_of_member, IsCircleOn, IsLeastPlace}
 use Rattle.list_laws.proofs.Places.{place_of, read_last}
 use Rattle.rank_find.proofs.WalkLemmas.{enter, enter-nearer, finish, finish-nearer}
-use Rattle.rank_find.proofs.CircleLemmas.{circle-loop}
-use Rattle.rank_find.proofs.RunLemmas.{start_lists}
+use Rattle.rank_find.proofs.{CircleLemmas.circle-loop, RunLemmas.start_lists}
 
 -- some signal is fresh, or none
 fresh_or : (marks : List Mark) → ((s : ℕ) × (mark_at marks s ≡ Fresh)) ⊎ ((s : ℕ) → mark_at marks s ≢ Fresh)

@@ -1,19 +1,12 @@
 -- The beginning and the end of a walk.
 use Rattle.std.proofs.Common.{◌≡◌, ◌≢◌, ◌∙◌, ℕ, zero, suc, ◌+◌, ◌≤◌, inl, inr, Bool, true, false, if◌then◌else◌, List, [], ◌∷◌, ◌++◌, length, map, get_or, set, refl, sym, ap, arith, Option, Some, None}
+use Rattle.std.proofs.lemmas.List.{get_or_past, length-map, length-replicate, Elements.All-nil, Sums.sum_by-cons}
 use Rattle.std.specs.List.{Contains, sum_by, slice_get}
-use Rattle.std.proofs.lemmas.List.{get_or_past, length-map, length-replicate}
-use Rattle.std.proofs.lemmas.List.Elements.{All-nil}
-use Rattle.std.proofs.lemmas.List.Sums.{sum_by-cons}
-use Rattle.net_defs.specs.declared.netlist.Netlist.{Netlist}
-use Rattle.net_defs.specs.declared.netlist.Signal.{Signal}
-use Rattle.net_defs.specs.declared.timing.Timing.{Timing}
 use Rattle.net_defs.specs.Loops.{is_gate, IsGate, waits_for, IsOrder}
-use Rattle.rank_find.specs.declared.walk.Mark.{Mark}
-use Rattle.rank_find.specs.declared.walk.Mark.TheVariants.{Fresh, Open, Done}
-use Rattle.rank_find.specs.declared.walk.Walk.{Walk}
+use Rattle.net_defs.specs.declared.{netlist.Netlist.Netlist, netlist.Signal.Signal, timing.Timing.Timing}
 use Rattle.rank_find.specs.code.Walk.{mark_at, first_mark, freshness, IsWalk, IsWalking, Reaches, IsStart, IsIdle, IsOver}
-use Rattle.list_laws.proofs.Places.{place_of}
-use Rattle.list_laws.proofs.Ranges.{replicate_read}
+use Rattle.rank_find.specs.declared.walk.{Mark.Mark, Mark.TheVariants.Fresh, Mark.TheVariants.Open, Mark.TheVariants.Done, Walk.Walk}
+use Rattle.list_laws.proofs.{Places.place_of, Ranges.replicate_read}
 use Rattle.rank_find.proofs.WalkLemmas.{fresh_within, set_mark, enter}
 
 -- the first mark of a signal that may be missing

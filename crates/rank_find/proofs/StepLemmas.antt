@@ -1,17 +1,11 @@
 -- The steps of the code's walk, each by the step of its lists.
 use Rattle.std.proofs.Common.{◌≡◌, ◌≢◌, ◌∙◌, ℕ, ◌+◌, ◌-◌, ◌<◌, ◌≤◌, inl, inr, List, [], ◌∷◌, ◌++◌, length, take, get_or, set, refl, sym, ap, subst, arith}
-use Rattle.std.specs.List.{Contains}
-use Rattle.std.proofs.lemmas.Bool.{cases_lt}
-use Rattle.std.proofs.lemmas.Bool.Decides.{eqb_tells}
 use Rattle.std.proofs.lemmas.List.{get_or-set_same, get_or-set_other, length_push, length-set}
-use Rattle.std.proofs.lemmas.List.Elements.{Contains-get_or}
-use Rattle.net_defs.specs.declared.netlist.Netlist.{Netlist}
-use Rattle.net_defs.specs.declared.timing.Timing.{Timing}
-use Rattle.net_defs.specs.Loops.{waits_for, IsLoop}
-use Rattle.rank_find.specs.declared.walk.Mark.{Mark}
-use Rattle.rank_find.specs.declared.walk.Mark.TheVariants.{Fresh, Open, Done}
-use Rattle.rank_find.specs.declared.walk.Walk.{Walk}
+use Rattle.std.proofs.lemmas.{Bool.cases_lt, Bool.Decides.eqb_tells, List.Elements.Contains-get_or}
+use Rattle.std.specs.List.{Contains}
+use Rattle.net_defs.specs.{declared.netlist.Netlist.Netlist, declared.timing.Timing.Timing, Loops.waits_for, Loops.IsLoop}
 use Rattle.rank_find.specs.code.Walk.{mark_at, work_left, IsWalk, IsWalking, Advances, IsTop, IsFirstUndone, AreDoneFrom, StepsTo}
+use Rattle.rank_find.specs.declared.walk.{Mark.Mark, Mark.TheVariants.Fresh, Mark.TheVariants.Open, Mark.TheVariants.Done, Walk.Walk}
 use Rattle.rank_find.specs.code.Circle.{IsCircleAt}
 use Rattle.list_laws.proofs.Places.{read_last, place_of}
 use Rattle.rank_find.proofs.WalkLemmas.{fresh_within, open_within, set_mark, enter, enter-nearer, finish, finish-nearer}

@@ -1,20 +1,13 @@
 -- Each step of the walk keeps what its lists mean.
 use Rattle.std.proofs.Common.{◌≡◌, ◌≢◌, ◌∙◌, ℕ, ◌+◌, ◌<◌, ◌≤◌, ◌⊎◌, inl, inr, Bool, true, false, List, [], ◌∷◌, ◌++◌, length, take, get_or, set, refl, sym, ap, subst, arith, IsTrue}
-use Rattle.std.specs.List.{Contains}
-use Rattle.std.proofs.lemmas.Bool.{cases_lt}
-use Rattle.std.proofs.lemmas.Bool.Decides.{eqb_tells}
 use Rattle.std.proofs.lemmas.List.{get_or-set_same, get_or-set_other, get_or_past, length_push, length-set, take-append-le}
-use Rattle.std.proofs.lemmas.List.Sums.{sum_by-set}
 use Rattle.std.proofs.lemmas.List.Elements.{Contains-push, Contains-push_cases, Contains-append_left, All-push}
-use Rattle.net_defs.specs.declared.netlist.Netlist.{Netlist}
-use Rattle.net_defs.specs.declared.timing.Timing.{Timing}
-use Rattle.net_defs.specs.Loops.{is_gate, IsGate, waits_for}
-use Rattle.rank_find.specs.declared.walk.Mark.{Mark}
-use Rattle.rank_find.specs.declared.walk.Mark.TheVariants.{Fresh, Open, Done}
+use Rattle.std.proofs.lemmas.{Bool.cases_lt, Bool.Decides.eqb_tells, List.Sums.sum_by-set}
+use Rattle.std.specs.List.{Contains}
+use Rattle.net_defs.specs.{declared.netlist.Netlist.Netlist, declared.timing.Timing.Timing, Loops.is_gate, Loops.IsGate, Loops.waits_for}
 use Rattle.rank_find.specs.code.Walk.{mark_at, freshness, work_left, IsWalk}
-use Rattle.list_laws.proofs.Differ.{differ_at, differ_push, differ_front}
-use Rattle.list_laws.proofs.Places.{read_before, read_last, take_front}
-use Rattle.list_laws.proofs.Ranges.{last_or}
+use Rattle.rank_find.specs.declared.walk.Mark.{Mark, TheVariants.Fresh, TheVariants.Open, TheVariants.Done}
+use Rattle.list_laws.proofs.{Differ.differ_at, Differ.differ_push, Differ.differ_front, Places.read_before, Places.read_last, Places.take_front, Ranges.last_or}
 
 -- what is not done has its own mark
 pub marked_within : (marks : List Mark) (s : ℕ) → mark_at marks s ≢ Done → s < length marks

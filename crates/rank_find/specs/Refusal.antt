@@ -1,7 +1,6 @@
 -- What a refusal carries.
 use Rattle.std.specs.Prelude.{List, ℕ, ⊤}
-use Rattle.rank_find.specs.declared.RankNo.{RankNo}
-use Rattle.rank_find.specs.declared.RankNo.TheVariants.{Loop, Memory}
+use Rattle.rank_find.specs.declared.RankNo.{RankNo, TheVariants.Loop, TheVariants.Memory}
 
 -- a refusal for a loop carries one that is so
 abbrev pub IfLoop : RankNo → (List ℕ → Type 0) → Type 0

@@ -8,13 +8,10 @@
 #![tactic(auto)]
 
 ghost use Rattle.std.specs.Prelude.{◌≡◌, ◌≢◌, ◌<◌, ◌≤◌, ◌^◌, List as Items, ℕ, length, IfOk, IfErr, OnOk};
-ghost use Rattle.net_defs.specs.declared.netlist.Netlist.{Netlist};
-ghost use Rattle.net_defs.specs.declared.timing.Timing.{Timing};
-ghost use Rattle.net_defs.specs.declared.timing.Mode.TheVariants as mode;
-ghost use Rattle.net_defs.specs.Valid.{IsValidTiming};
 ghost use Rattle.net_defs.specs.Loops.{IsOrder, IsCircle, IsLoop, AreRanks, OrderOrLoop};
-ghost use Rattle.rank_find.specs.Refusal.{IfLoop};
-ghost use Rattle.rank_find.specs.code.Found.{IsFound};
+ghost use Rattle.net_defs.specs.{declared.netlist.Netlist.Netlist, declared.timing.Timing.Timing, Valid.IsValidTiming};
+ghost use Rattle.net_defs.specs.declared.timing.Mode.TheVariants as mode;
+ghost use Rattle.rank_find.specs.{Refusal.IfLoop, code.Found.IsFound};
 
 mod circle;
 mod numbers;

@@ -1,8 +1,7 @@
 //! The walk down the operands.
 
 ghost use Rattle.std.specs.Prelude.{◌≡◌, ◌≢◌, ℕ, ◌+◌, ◌-◌, ◌*◌, ◌^◌, ◌<◌, ◌≤◌, [], ◌∷◌, ◌++◌, length, take, map, replicate, slice_set, slice_index, IfOk, OnOk, IfSome, IsNone, MatchOption, Contains};
-ghost use Rattle.net_defs.specs.Loops.{waits_for, IsLoop};
-ghost use Rattle.net_defs.specs.Valid.{IsValidTiming};
+ghost use Rattle.net_defs.specs.{Loops.waits_for, Loops.IsLoop, Valid.IsValidTiming};
 ghost use Rattle.rank_find.specs.code.Walk.{mark_at, first_mark, work_left, IsWalking, Advances, Reaches, IsTop, IsFirstUndone, AreDoneFrom, IsStart, IsIdle, IsOver, WentDown, StepsTo};
 
 use crate::circle::circle_at;

@@ -1,26 +1,15 @@
 -- The row that the gates make along an order: each gate that is not late has its value over the row
 -- as it ends.
 use Rattle.std.proofs.Common.{◌≡◌, ◌∙◌, ℕ, zero, suc, ◌+◌, ◌-◌, ◌<◌, ◌≤◌, inl, inr, true, false, if◌then◌else◌, List, length, take, get_or, set, refl, sym, ap, subst, arith, Option, Some, None}
+use Rattle.std.proofs.lemmas.List.{Sums.fold_more, take_all, length-set, get_or-set_same}
 use Rattle.std.specs.List.{slice_get, Contains, fold}
-use Rattle.std.proofs.lemmas.List.Sums.{fold_more}
-use Rattle.std.proofs.lemmas.List.{take_all, length-set, get_or-set_same}
-use Rattle.logic_four.specs.declared.V4.{V4}
-use Rattle.logic_four.specs.declared.V4.TheVariants.{Undef}
-use Rattle.logic_four.specs.declared.Kind.{Kind}
-use Rattle.logic_four.specs.Gates.{gate_value}
-use Rattle.net_defs.specs.declared.netlist.Netlist.{Netlist}
-use Rattle.net_defs.specs.declared.netlist.Signal.{Signal}
-use Rattle.net_defs.specs.declared.netlist.Driver.{Driver}
+use Rattle.logic_four.specs.{declared.V4.V4, declared.V4.TheVariants.Undef, declared.Kind.Kind, Gates.gate_value}
 use Rattle.net_defs.specs.declared.netlist.Driver.TheVariants.{Input, Gate, Dff, BlockBit}
-use Rattle.net_defs.specs.declared.timing.Timing.{Timing}
-use Rattle.net_defs.specs.Time.{value_at}
-use Rattle.net_defs.specs.Steps.{is_late, values_of}
-use Rattle.net_defs.specs.Loops.{IsGate, waits_for, IsOrder}
-use Rattle.list_laws.proofs.Differ.{differ_at}
-use Rattle.list_laws.proofs.Places.{place_of, place_below}
+use Rattle.net_defs.specs.declared.{netlist.Netlist.Netlist, netlist.Signal.Signal, netlist.Driver.Driver, timing.Timing.Timing}
+use Rattle.net_defs.specs.{Time.value_at, Steps.is_late, Steps.values_of, Loops.IsGate, Loops.waits_for, Loops.IsOrder}
+use Rattle.list_laws.proofs.{Differ.differ_at, Places.place_of, Places.place_below}
 use Rattle.rank_find.proofs.lemmas.NumberLemmas.{gate_within}
-use Rattle.net_ops.proofs.Rows.{put_value}
-use Rattle.net_ops.proofs.lemmas.Waits.{map_same, late_or, waits_here}
+use Rattle.net_ops.proofs.{Rows.put_value, lemmas.Waits.map_same, lemmas.Waits.late_or, lemmas.Waits.waits_here}
 
 -- what a gate answers over a row; what is no gate keeps its value
 abbrev pub gate_driven : List V4 → ℕ → Driver → V4

@@ -1,26 +1,15 @@
 -- Cycles and rows of a run, against every simulation.
 use Rattle.std.proofs.Common.{◌≡◌, ◌∙◌, ℕ, zero, suc, ◌+◌, ◌-◌, ◌*◌, ◌<◌, ◌≤◌, inl, inr, Bool, true, ◌&&◌, ◌==◌, List, [], ◌∷◌, ◌++◌, length, length-append, append-nil, map, take, replicate, get_or, refl, sym, ap, subst, arith, Option, Some, None}
-use Rattle.std.specs.List.{slice_get, flat_map, take-map}
-use Rattle.std.proofs.Math.Nat.{mul-le-mul_left}
-use Rattle.std.proofs.lemmas.Bool.Decides.{eqb_tells}
-use Rattle.std.proofs.lemmas.Option.{slice_get_within, slice_get-get_or, get_or_from_slice_get}
 use Rattle.std.proofs.lemmas.List.{length-replicate, length_push, get_or_append_left, get_or_push, get_or-replicate, take_more}
-use Rattle.std.proofs.lemmas.List.Concat.{get_or-flat_map}
-use Rattle.std.proofs.lemmas.List.Folds.{length-flat_map-take}
-use Rattle.std.proofs.lemmas.Grind.{flat_map-append}
+use Rattle.std.proofs.{Math.Nat.mul-le-mul_left, lemmas.Bool.Decides.eqb_tells}
+use Rattle.std.proofs.lemmas.{Option.slice_get_within, Option.slice_get-get_or, Option.get_or_from_slice_get, List.Concat.get_or-flat_map}
+use Rattle.std.proofs.lemmas.{List.Folds.length-flat_map-take, Grind.flat_map-append}
+use Rattle.std.specs.List.{slice_get, flat_map, take-map}
 use Rattle.logic_four.specs.declared.V4.{V4}
-use Rattle.net_defs.specs.declared.netlist.Netlist.{Netlist}
-use Rattle.net_defs.specs.declared.timing.Timing.{Timing}
-use Rattle.net_defs.specs.declared.stimulus.Stimulus.{Stimulus}
-use Rattle.net_defs.specs.declared.stimulus.StimRow.{StimRow}
-use Rattle.net_defs.specs.Time.{cycle_rows, cycle_count, turn_count}
-use Rattle.net_defs.specs.Steps.{State, first_state}
-use Rattle.net_defs.specs.Loops.{IsOrder}
+use Rattle.net_defs.specs.declared.{netlist.Netlist.Netlist, timing.Timing.Timing, stimulus.Stimulus.Stimulus, stimulus.StimRow.StimRow}
+use Rattle.net_defs.specs.{Time.cycle_rows, Time.cycle_count, Time.turn_count, Steps.State, Steps.first_state, Loops.IsOrder}
 use Rattle.list_laws.proofs.Ranges.{last_or}
-use Rattle.net_ops.specs.declared.state.LaneState.{LaneState}
-use Rattle.net_ops.specs.Lanes.{lane_row}
-use Rattle.net_ops.specs.Places.{row_of}
-use Rattle.net_ops.specs.States.{lane_state, Passes}
+use Rattle.net_ops.specs.{declared.state.LaneState.LaneState, Lanes.lane_row, Places.row_of, States.lane_state, States.Passes}
 use Rattle.net_ops.proofs.Steps.{free_step}
 use Rattle.ref_sim.specs.Observing.{RunsAs, HasWatched, HasWatchedLanes, end_row}
 use Rattle.ref_sim.specs.code.Runs.{StandsAt, RunsTo, IsReadyToLook, HasLooked, cycles_before, value_in}

@@ -1,22 +1,13 @@
 -- A simulation along an order: each state is made from the one before.
 use Rattle.std.proofs.Common.{◌≡◌, ◌∙◌, ℕ, zero, suc, ◌+◌, inl, inr, true, false, if◌then◌else◌, List, [], ◌∷◌, length, map, refl, sym, ap, subst, arith, Option, Some, None}
+use Rattle.std.proofs.lemmas.{Option.slice_get_within, List.FromFn.length-map-range_with_len, List.FromFn.get_or-map-range_with_len}
 use Rattle.std.specs.List.{slice_get, range_with_len}
-use Rattle.std.proofs.lemmas.Option.{slice_get_within}
-use Rattle.std.proofs.lemmas.List.FromFn.{length-map-range_with_len, get_or-map-range_with_len}
-use Rattle.logic_four.specs.declared.V4.{V4}
-use Rattle.logic_four.specs.declared.V4.TheVariants.{Undef}
-use Rattle.logic_four.specs.Gates.{gate_value}
-use Rattle.net_defs.specs.declared.netlist.Netlist.{Netlist}
-use Rattle.net_defs.specs.declared.netlist.Signal.{Signal}
-use Rattle.net_defs.specs.declared.netlist.Block.{Block}
-use Rattle.net_defs.specs.declared.netlist.Driver.{Driver}
+use Rattle.logic_four.specs.{declared.V4.V4, declared.V4.TheVariants.Undef, Gates.gate_value}
 use Rattle.net_defs.specs.declared.netlist.Driver.TheVariants.{Input, Gate, Dff, BlockBit}
-use Rattle.net_defs.specs.declared.timing.Timing.{Timing}
-use Rattle.net_defs.specs.declared.stimulus.Stimulus.{Stimulus}
-use Rattle.net_defs.specs.Time.{value_at, turn_count}
 use Rattle.net_defs.specs.Steps.{State, is_late, values_of, words_of, driven, words_after, IsRightStep, first_state}
 use Rattle.net_defs.specs.Loops.{is_gate, IsGate, is_gate_driver, IsOrder}
-use Rattle.net_defs.specs.Reference.{IsSimulation}
+use Rattle.net_defs.specs.declared.{netlist.Netlist.Netlist, netlist.Signal.Signal, netlist.Block.Block, netlist.Driver.Driver, timing.Timing.Timing}
+use Rattle.net_defs.specs.{declared.stimulus.Stimulus.Stimulus, Time.value_at, Time.turn_count, Reference.IsSimulation}
 use Rattle.net_ops.proofs.lemmas.Waits.{late_or}
 use Rattle.ref_sim.proofs.Along.{along, along_length, along_keeps, along_gate}
 

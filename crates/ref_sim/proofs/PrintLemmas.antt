@@ -1,18 +1,11 @@
 -- Rows that are printed one cycle after the other.
 use Rattle.std.proofs.Common.{◌≡◌, ◌∙◌, ℕ, ◌+◌, ◌<◌, true, List, [], ◌∷◌, ◌++◌, length, map, take, get_or, set, refl, sym, ap, arith}
-use Rattle.std.proofs.lemmas.Option.{slice_get_within, slice_get-get_or, get_or_from_slice_get}
 use Rattle.std.proofs.lemmas.List.{length-map, length-set, length_push, map-append, get_or-map, take_all, take_more_set}
-use Rattle.std.proofs.lemmas.List.Elements.{All-set}
+use Rattle.std.proofs.lemmas.{Option.slice_get_within, Option.slice_get-get_or, Option.get_or_from_slice_get, List.Elements.All-set}
 use Rattle.logic_four.specs.declared.V4.{V4}
-use Rattle.net_defs.specs.declared.netlist.Netlist.{Netlist}
-use Rattle.net_defs.specs.declared.timing.Timing.{Timing}
-use Rattle.net_defs.specs.declared.stimulus.Stimulus.{Stimulus}
-use Rattle.net_defs.specs.declared.trace.CellRow.{CellRow}
-use Rattle.net_defs.specs.Time.{value_at, cycle_count}
-use Rattle.net_defs.specs.Steps.{values_of}
-use Rattle.ref_sim.specs.Observing.{HasWatched}
-use Rattle.ref_sim.specs.Runs.{AreRowsOf}
-use Rattle.ref_sim.specs.code.Runs.{printed_row, value_in, ArePrinted}
+use Rattle.net_defs.specs.declared.{netlist.Netlist.Netlist, timing.Timing.Timing, stimulus.Stimulus.Stimulus, trace.CellRow.CellRow}
+use Rattle.net_defs.specs.{Time.value_at, Time.cycle_count, Steps.values_of}
+use Rattle.ref_sim.specs.{Observing.HasWatched, Runs.AreRowsOf, code.Runs.printed_row, code.Runs.value_in, code.Runs.ArePrinted}
 use Rattle.net_ops.specs.Lanes.{lane_row}
 use Rattle.net_ops.proofs.lemmas.Waits.{map_same}
 use Rattle.ref_sim.proofs.CycleLemmas.{same_values}

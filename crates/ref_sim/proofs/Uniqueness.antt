@@ -1,23 +1,13 @@
 -- Two right steps of one turn from one state are equal, and so two simulations are.
 use Rattle.std.proofs.Common.{◌≡◌, ◌∙◌, ℕ, zero, suc, ◌+◌, ◌<◌, ◌≤◌, ◌⊎◌, inl, inr, true, false, if◌then◌else◌, List, [], ◌∷◌, length, get_or, refl, sym, ap, subst, arith, Option, Some, None}
+use Rattle.std.proofs.lemmas.{Bool.cases_lt, Option.slice_get-get_or, List.get_or_past, List.ext_get_or}
 use Rattle.std.specs.List.{slice_get, Contains}
-use Rattle.std.proofs.lemmas.Bool.{cases_lt}
-use Rattle.std.proofs.lemmas.Option.{slice_get-get_or}
-use Rattle.std.proofs.lemmas.List.{get_or_past, ext_get_or}
-use Rattle.logic_four.specs.declared.V4.TheVariants.{Undef}
-use Rattle.logic_four.specs.declared.Kind.{Kind}
-use Rattle.logic_four.specs.Gates.{gate_value}
-use Rattle.net_defs.specs.declared.netlist.Netlist.{Netlist}
-use Rattle.net_defs.specs.declared.netlist.Signal.{Signal}
-use Rattle.net_defs.specs.declared.netlist.Block.{Block}
-use Rattle.net_defs.specs.declared.netlist.Driver.{Driver}
+use Rattle.logic_four.specs.{declared.V4.TheVariants.Undef, declared.Kind.Kind, Gates.gate_value}
 use Rattle.net_defs.specs.declared.netlist.Driver.TheVariants.{Input, Gate, Dff, BlockBit}
-use Rattle.net_defs.specs.declared.timing.Timing.{Timing}
-use Rattle.net_defs.specs.declared.stimulus.Stimulus.{Stimulus}
-use Rattle.net_defs.specs.Time.{value_at, turn_count}
 use Rattle.net_defs.specs.Steps.{State, is_late, values_of, words_of, driven, IsRightStep, first_state}
 use Rattle.net_defs.specs.Loops.{is_gate, IsGate, is_gate_driver, waits_for, IsOrder}
-use Rattle.net_defs.specs.Reference.{IsSimulation}
+use Rattle.net_defs.specs.declared.{netlist.Netlist.Netlist, netlist.Signal.Signal, netlist.Block.Block, netlist.Driver.Driver, timing.Timing.Timing}
+use Rattle.net_defs.specs.{declared.stimulus.Stimulus.Stimulus, Time.value_at, Time.turn_count, Reference.IsSimulation}
 use Rattle.list_laws.proofs.Places.{place_of, place_below}
 use Rattle.rank_find.proofs.WalkLemmas.{is_gate_or}
 use Rattle.net_ops.proofs.lemmas.Waits.{map_same, late_or, waits_here}

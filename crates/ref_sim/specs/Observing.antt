@@ -1,15 +1,9 @@
 -- What an observer of a run has looked at.
 use Rattle.std.specs.Prelude.{◌≡◌, ℕ, ◌+◌, ◌*◌, ◌<◌, Bool, true, List, [], length, Option, Some, slice_get, slice_index_or}
 use Rattle.logic_four.specs.declared.V4.{V4}
-use Rattle.net_defs.specs.declared.netlist.Netlist.{Netlist}
-use Rattle.net_defs.specs.declared.timing.Timing.{Timing}
-use Rattle.net_defs.specs.declared.stimulus.Stimulus.{Stimulus}
-use Rattle.net_defs.specs.Time.{cycle_count}
-use Rattle.net_defs.specs.Steps.{State, first_state, IsRightStep}
-use Rattle.net_defs.specs.Loops.{IsOrder}
-use Rattle.net_defs.specs.Reference.{IsSimulation}
-use Rattle.net_ops.specs.Lanes.{lane_row}
-use Rattle.net_ops.specs.States.{IsForcedStep}
+use Rattle.net_defs.specs.{declared.netlist.Netlist.Netlist, declared.timing.Timing.Timing, declared.stimulus.Stimulus.Stimulus, Time.cycle_count}
+use Rattle.net_defs.specs.{Steps.State, Steps.first_state, Steps.IsRightStep, Loops.IsOrder, Reference.IsSimulation}
+use Rattle.net_ops.specs.{Lanes.lane_row, States.IsForcedStep}
 
 -- the values of all signals at the end of a cycle, counted from 1: those of its last turn
 abbrev pub end_row : Timing → List State → ℕ → List V4

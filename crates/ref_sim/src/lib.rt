@@ -7,13 +7,9 @@
 #![tactic(auto)]
 
 ghost use Rattle.std.specs.Prelude.{◌≡◌, ◌≢◌, List as Items, ℕ, IfOk, IfErr, OnOk};
-ghost use Rattle.net_defs.specs.declared.netlist.Netlist.{Netlist};
-ghost use Rattle.net_defs.specs.declared.timing.Timing.{Timing};
+ghost use Rattle.net_defs.specs.declared.{netlist.Netlist.Netlist, timing.Timing.Timing, stimulus.Stimulus.Stimulus};
+ghost use Rattle.net_defs.specs.{Loops.IsCircle, Loops.IsLoop, Valid.IsValid, Valid.IsValidTiming, Reference.HasOneSimulation};
 ghost use Rattle.net_defs.specs.declared.timing.Mode.TheVariants as mode;
-ghost use Rattle.net_defs.specs.declared.stimulus.Stimulus.{Stimulus};
-ghost use Rattle.net_defs.specs.Loops.{IsCircle, IsLoop};
-ghost use Rattle.net_defs.specs.Valid.{IsValid, IsValidTiming};
-ghost use Rattle.net_defs.specs.Reference.{HasOneSimulation};
 ghost use Rattle.rank_find.specs.Refusal.{IfLoop};
 ghost use Rattle.ref_sim.specs.Runs.{AreRowsOf};
 

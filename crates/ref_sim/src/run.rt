@@ -1,16 +1,9 @@
 //! A run over all cycles.
 
 ghost use Rattle.std.specs.Prelude.{◌≡◌, ℕ, ◌+◌, ◌<◌, ◌≤◌, ◌==◌, ◌&&◌, true, false, [], length, IfOk, OnErr, OnOk};
-ghost use Rattle.net_defs.specs.Time.{cycle_count};
-ghost use Rattle.net_defs.specs.Valid.{IsValid, IsValidTiming};
-ghost use Rattle.net_defs.specs.Steps.{first_state};
-ghost use Rattle.net_defs.specs.Reference.{HasOneSimulation};
-ghost use Rattle.net_defs.specs.Loops.{IsOrder};
-ghost use Rattle.ref_sim.specs.Observing.{HasWatched, HasWatchedLanes};
-ghost use Rattle.ref_sim.specs.Runs.{AreRowsOf};
-ghost use Rattle.net_ops.specs.Schedules.{IsSchedule};
-ghost use Rattle.net_ops.specs.States.{lane_state, IsReady};
-ghost use Rattle.ref_sim.specs.code.Runs.{RunsTo, cycles_before};
+ghost use Rattle.net_defs.specs.{Time.cycle_count, Valid.IsValid, Valid.IsValidTiming, Steps.first_state, Reference.HasOneSimulation, Loops.IsOrder};
+ghost use Rattle.ref_sim.specs.{Observing.HasWatched, Observing.HasWatchedLanes, Runs.AreRowsOf, code.Runs.RunsTo, code.Runs.cycles_before};
+ghost use Rattle.net_ops.specs.{Schedules.IsSchedule, States.lane_state, States.IsReady};
 
 use crate::observer::Observer;
 use crate::trace_rows::Printing;

@@ -1,8 +1,7 @@
 //! The printed values of all cycles, in room that is taken before the first turn.
 
 ghost use Rattle.std.specs.Prelude.{◌≡◌, ◌+◌, ◌<◌, ◌≤◌, [], length, slice_set, IfOk, OnOk, All, true};
-ghost use Rattle.net_defs.specs.Time.{cycle_count};
-ghost use Rattle.net_defs.specs.Valid.{IsSignal};
+ghost use Rattle.net_defs.specs.{Time.cycle_count, Valid.IsSignal};
 ghost use Rattle.ref_sim.specs.code.Runs.{printed_row, AreWide, ArePrinted, HasRows};
 
 use crate::observer::Observer;

@@ -4,31 +4,23 @@ use Rattle.std.specs.List.{flat_map}
 use Rattle.limits.specs.declared.TheConstants.{LANES, MAX_CELLS, MAX_FAULT_SIGNALS, MAX_PACK_BITS, MAX_PORTS, MAX_TEXT_BYTES}
 use Rattle.bench_text.specs.declared.token.TextNo.{TextNo}
 use Rattle.bench_text.specs.declared.token.TextNo.TheVariants as text_no
-use Rattle.bench_read.specs.declared.refusal.Many.{Many}
-use Rattle.bench_read.specs.declared.refusal.Many.TheVariants.{Signals, Operands}
-use Rattle.bench_read.specs.declared.refusal.BenchNo.{BenchNo}
+use Rattle.bench_read.specs.declared.refusal.{Many.Many, Many.TheVariants.Signals, Many.TheVariants.Operands, BenchNo.BenchNo, LastNo.LastNo, FaultNo.FaultNo}
 use Rattle.bench_read.specs.declared.refusal.BenchNo.TheVariants as bench_no
-use Rattle.bench_read.specs.declared.refusal.LastNo.{LastNo}
 use Rattle.bench_read.specs.declared.refusal.LastNo.TheVariants as last_no
-use Rattle.bench_read.specs.declared.refusal.FaultNo.{FaultNo}
 use Rattle.bench_read.specs.declared.refusal.FaultNo.TheVariants as fault_no
 use Rattle.machine_text.specs.declared.machine.MachNo.{MachNo}
 use Rattle.machine_text.specs.declared.machine.MachNo.TheVariants as mach_no
 use Rattle.yse_compile.specs.declared.compiler.CompNo.{CompNo}
 use Rattle.yse_compile.specs.declared.compiler.CompNo.TheVariants as comp_no
-use Rattle.stim_text.specs.declared.refusal.StimNo.{StimNo}
+use Rattle.stim_text.specs.declared.refusal.{StimNo.StimNo, LaneNo.LaneNo, OrderNo.OrderNo}
 use Rattle.stim_text.specs.declared.refusal.StimNo.TheVariants as stim_no
-use Rattle.stim_text.specs.declared.refusal.LaneNo.{LaneNo}
 use Rattle.stim_text.specs.declared.refusal.LaneNo.TheVariants as lane_no
-use Rattle.stim_text.specs.declared.refusal.OrderNo.{OrderNo}
 use Rattle.stim_text.specs.declared.refusal.OrderNo.TheVariants as order_no
 use Rattle.image_file.specs.declared.refusal.ImageNo.{ImageNo}
 use Rattle.image_file.specs.declared.refusal.ImageNo.TheVariants as image_no
 use Rattle.image_check.specs.declared.check.CheckNo.{CheckNo}
 use Rattle.image_check.specs.declared.check.CheckNo.TheVariants as check_no
-use Rattle.net_defs.specs.declared.netlist.Netlist.{Netlist}
-use Rattle.net_defs.specs.declared.netlist.Block.{Block}
-use Rattle.net_defs.specs.Canonical.{name_of}
+use Rattle.net_defs.specs.{declared.netlist.Netlist.Netlist, declared.netlist.Block.Block, Canonical.name_of}
 use Rattle.edge_io.specs.Writing.{joined}
 
 unfoldable pub usage_line : List ℕ

@@ -2,27 +2,22 @@
 use Rattle.std.specs.Prelude.{ℕ, List}
 use Rattle.machine_text.specs.declared.machine.MachNo.{MachNo}
 use Rattle.machine_text.specs.declared.machine.MachNo.TheVariants as mach_no
-use Rattle.bench_read.specs.declared.refusal.BenchNo.{BenchNo}
+use Rattle.bench_read.specs.declared.refusal.{BenchNo.BenchNo, LastNo.LastNo, FaultNo.FaultNo}
 use Rattle.bench_read.specs.declared.refusal.BenchNo.TheVariants as bench_no
-use Rattle.bench_read.specs.declared.refusal.LastNo.{LastNo}
 use Rattle.bench_read.specs.declared.refusal.LastNo.TheVariants as last_no
-use Rattle.bench_read.specs.declared.refusal.FaultNo.{FaultNo}
 use Rattle.bench_read.specs.declared.refusal.FaultNo.TheVariants as fault_no
-use Rattle.stim_text.specs.declared.refusal.StimNo.{StimNo}
+use Rattle.stim_text.specs.declared.refusal.{StimNo.StimNo, LaneNo.LaneNo, OrderNo.OrderNo}
 use Rattle.stim_text.specs.declared.refusal.StimNo.TheVariants as stim_no
-use Rattle.stim_text.specs.declared.refusal.LaneNo.{LaneNo}
 use Rattle.stim_text.specs.declared.refusal.LaneNo.TheVariants as lane_no
-use Rattle.stim_text.specs.declared.refusal.OrderNo.{OrderNo}
 use Rattle.stim_text.specs.declared.refusal.OrderNo.TheVariants as order_no
 use Rattle.image_file.specs.declared.refusal.ImageNo.{ImageNo}
 use Rattle.image_file.specs.declared.refusal.ImageNo.TheVariants as image_no
 use Rattle.image_check.specs.declared.check.CheckNo.{CheckNo}
 use Rattle.image_check.specs.declared.check.CheckNo.TheVariants as check_no
-use Rattle.refusals.specs.declared.refusal.Refusal.{Refusal}
-use Rattle.refusals.specs.declared.refusal.Refusal.TheVariants as refusal
-use Rattle.refusals.specs.declared.status.Status.{Status}
-use Rattle.refusals.specs.declared.status.Status.TheVariants as status
 use Rattle.refusals.specs.Lines.{usage_line, read_fault_line, memory_line, too_long_line, machine_line, netlist_line, loop_line, overfull_line, stimulus_line, cells_line, bits_limit_line, signals_line, lanes_line, order_line, list_line, faults_line, image_line, match_line}
+use Rattle.refusals.specs.declared.{refusal.Refusal.Refusal, status.Status.Status}
+use Rattle.refusals.specs.declared.refusal.Refusal.TheVariants as refusal
+use Rattle.refusals.specs.declared.status.Status.TheVariants as status
 
 abbrev pub line_of : Refusal → List ℕ
 line_of refusal.Words = usage_line

@@ -1,7 +1,6 @@
 -- What a list ends as, where a `&mut` to its members was lent.
-use Rattle.std.specs.Prelude.{List, length}
-use Rattle.std.specs.List.{refill}
 use Rattle.std.specs.Borrow.{Lends, Fml, RattleType, MutBor, Array}
+use Rattle.std.specs.{Prelude.List, Prelude.length, List.refill}
 use Rattle.seen_list.specs.contracts.list.List.{the_row}
 
 module _ (T : RattleType) (lent : MutBor (List T.Denot)) where

@@ -1,9 +1,7 @@
 //! A list that grows at its end.
 
 ghost use Rattle.std.specs.Prelude.{◌≡◌, ◌<◌, ◌↔◌, List as Items, [], ◌∷◌, ◌++◌, length, slice_set, OnErr, OnOk, IfOk, IsNone, IfSome, IsTrue, replicate, slice_get, option_copied};
-ghost use Rattle.std.specs.Slice.Iter.{iter_rest};
-ghost use Rattle.std.specs.Vec.{vec_capacity};
-ghost use Rattle.std.specs.Borrow.{sem};
+ghost use Rattle.std.specs.{Slice.Iter.iter_rest, Vec.vec_capacity, Borrow.sem};
 ghost use Rattle.seen_list.specs.Lending.{LendsMembers};
 
 use crate::Memory;

@@ -16,8 +16,7 @@ pub struct Room {
 }
 
 impl Model for Room {
-    ghost use Rattle.std.specs.Prelude.{◌≤◌, vec_len};
-    ghost use Rattle.std.specs.Vec.{vec_capacity};
+    ghost use Rattle.std.specs.{Prelude.◌≤◌, Prelude.vec_len, Vec.vec_capacity};
     ghost use Rattle.seen_list.specs.Filling.{Filling};
 
     ghost Value = { Filling };

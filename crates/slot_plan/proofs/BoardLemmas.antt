@@ -1,14 +1,11 @@
 -- Boards that get bits.
 use Rattle.std.proofs.Common.{◌≡◌, ◌∙◌, ◌⊎◌, ◌↔◌, inl, inr, ℕ, ◌+◌, ◌*◌, ◌/◌, ◌<◌, ◌≤◌, List, length, get_or, sym, ap, subst, arith}
-use Rattle.std.proofs.Math.Nat.{mul-le-mul_right}
-use Rattle.std.proofs.lemmas.List.{get_or_default}
+use Rattle.std.proofs.{Math.Nat.mul-le-mul_right, lemmas.List.get_or_default}
 use Rattle.list_laws.proofs.Ranges.{last_or}
-use Rattle.plan_defs.specs.declared.bit_rows.BitRows.{BitRows}
-use Rattle.plan_defs.specs.Bits.{HasBit, Adds, IsShaped}
-use Rattle.plan_defs.proofs.lemmas.AddLemmas.{adds_same}
-use Rattle.plan_defs.proofs.UserLemmas.{adds_either}
-use Rattle.slot_plan.specs.declared.board.Board.{Board}
+use Rattle.plan_defs.specs.{declared.bit_rows.BitRows.BitRows, Bits.HasBit, Bits.Adds, Bits.IsShaped}
+use Rattle.plan_defs.proofs.{lemmas.AddLemmas.adds_same, UserLemmas.adds_either}
 use Rattle.slot_plan.specs.code.Boards.{IsBoard, IsTaken, IsRuledOut, IsShut, IsRowFor}
+use Rattle.slot_plan.specs.declared.board.Board.{Board}
 
 -- there is room for each row
 pub row_room : (rows : BitRows) (count stride row : ℕ) → IsShaped rows count stride → row < count → row * rows.stride + rows.stride ≤ length rows.words

@@ -1,28 +1,16 @@
 -- One more item gets its slot.
 use Rattle.std.proofs.Common.{◌≡◌, ◌∙◌, ◌↔◌, inl, inr, ℕ, ◌+◌, ◌<◌, ◌≤◌, max, List, [], ◌∷◌, ◌++◌, length, get_or, sym, ap, subst, arith, Some, slice_get}
-use Rattle.std.specs.List.{Contains}
-use Rattle.std.proofs.lemmas.Bool.{cases_lt}
-use Rattle.std.proofs.lemmas.List.{get_or_append_left, length-append}
-use Rattle.std.proofs.lemmas.List.Sums.{fold-append}
+use Rattle.std.proofs.lemmas.{Bool.cases_lt, List.get_or_append_left, List.length-append, List.Sums.fold-append}
 use Rattle.std.proofs.Math.Seq.{get_or-append_seam}
+use Rattle.std.specs.List.{Contains}
 use Rattle.list_laws.proofs.Ranges.{last_or}
-use Rattle.plan_defs.specs.Bits.{HasBit, Adds}
-use Rattle.node_defs.specs.declared.items.Item.{Item}
-use Rattle.node_defs.specs.declared.items.NodeNet.{NodeNet}
-use Rattle.node_defs.specs.Takes.{Awaits}
-use Rattle.node_defs.specs.WellFormed.{IsWellFormed}
-use Rattle.plan_defs.specs.declared.plan.Homes.{Homes}
-use Rattle.plan_defs.specs.Homes.{AreHomes, home_of, ports_of}
-use Rattle.plan_defs.specs.Lists.{IsLeastFree}
-use Rattle.plan_defs.specs.Readers.{IsReader, IsReaderList}
 use Rattle.plan_defs.specs.Slots.{slot_of, needed_of, IsBlocked, AreFirstFit}
-use Rattle.plan_defs.proofs.lemmas.PortLemmas.{home_port, reader_port}
-use Rattle.plan_defs.proofs.lemmas.PlanLemmas.{blocked_agree, least_same}
-use Rattle.slot_plan.specs.declared.board.Board.{Board}
-use Rattle.slot_plan.specs.declared.planning.Planning.{Planning}
-use Rattle.slot_plan.specs.code.Boards.{IsBoard, IsShut, IsRowFor}
-use Rattle.slot_plan.specs.code.Early.{IsFrom, IsAnyLate}
-use Rattle.slot_plan.specs.code.Plannings.{IsRowOf, IsOccupied, IsPlannedTo}
+use Rattle.plan_defs.specs.{Bits.HasBit, Bits.Adds, declared.plan.Homes.Homes, Homes.AreHomes, Homes.home_of, Homes.ports_of, Lists.IsLeastFree}
+use Rattle.plan_defs.specs.Readers.{IsReader, IsReaderList}
+use Rattle.node_defs.specs.{declared.items.Item.Item, declared.items.NodeNet.NodeNet, Takes.Awaits, WellFormed.IsWellFormed}
+use Rattle.plan_defs.proofs.lemmas.{PortLemmas.home_port, PortLemmas.reader_port, PlanLemmas.blocked_agree, PlanLemmas.least_same}
+use Rattle.slot_plan.specs.{declared.board.Board.Board, declared.planning.Planning.Planning, code.Boards.IsBoard, code.Boards.IsShut, code.Boards.IsRowFor}
+use Rattle.slot_plan.specs.code.{Early.IsFrom, Early.IsAnyLate, Plannings.IsRowOf, Plannings.IsOccupied, Plannings.IsPlannedTo}
 
 -- ---- a slot more
 

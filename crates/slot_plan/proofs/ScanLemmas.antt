@@ -1,9 +1,8 @@
 -- Words of bits, looked through for the first bit that is not set.
 use Rattle.std.proofs.Common.{◌≡◌, ◌≢◌, ◌∙◌, ◌⊎◌, ◌↔◌, inl, inr, ℕ, ◌+◌, ◌-◌, ◌*◌, ◌/◌, ◌%◌, ◌^◌, ◌<◌, ◌≤◌, max, bit_and, bit_or, w64, sym, ap, subst, arith}
-use Rattle.std.specs.Int.{bit_at, trailing_ones}
-use Rattle.std.proofs.Math.Pow.{pow-lt}
-use Rattle.std.proofs.lemmas.Bool.{cases_lt}
 use Rattle.std.proofs.lemmas.Nat.Bits.{shr_and_one, bit_at_or, bit_at-lt, bit_at_ones, bit_at_ones_above, bit_at-trailing_ones}
+use Rattle.std.proofs.{Math.Pow.pow-lt, lemmas.Bool.cases_lt}
+use Rattle.std.specs.Int.{bit_at, trailing_ones}
 use Rattle.plan_defs.specs.Lists.{IsLeastFree}
 
 pub or_bit : (a b i : ℕ) → (bit_at (bit_or a b) i ≡ 1) ↔ ((bit_at a i ≡ 1) ⊎ (bit_at b i ≡ 1))

@@ -1,24 +1,13 @@
 -- Tables that are marked one node after another, and counted.
 use Rattle.std.proofs.Common.{◌≡◌, ◌∙◌, ◌⊎◌, ◌↔◌, inl, inr, ℕ, ◌+◌, ◌*◌, ◌<◌, ◌≤◌, Bool, true, false, if◌then◌else◌, IsTrue, List, [], ◌∷◌, ◌++◌, length, get_or, refl, sym, ap, subst, arith, Some, slice_get}
-use Rattle.std.proofs.lemmas.Option.{slice_get_within}
-use Rattle.std.proofs.lemmas.List.{length-append, get_or_append_left}
-use Rattle.std.proofs.Math.Seq.{get_or-append_seam}
+use Rattle.std.proofs.{lemmas.Option.slice_get_within, lemmas.List.length-append, lemmas.List.get_or_append_left, Math.Seq.get_or-append_seam}
 use Rattle.list_laws.proofs.Ranges.{last_or}
-use Rattle.plan_defs.specs.declared.bit_rows.BitRows.{BitRows}
-use Rattle.plan_defs.specs.Bits.{HasBit, IsShaped, Adds}
-use Rattle.plan_defs.proofs.lemmas.AddLemmas.{adds_both, adds_same}
-use Rattle.node_defs.specs.declared.items.Feeds.{Feeds}
-use Rattle.node_defs.specs.declared.items.Item.{Item}
+use Rattle.plan_defs.specs.{declared.bit_rows.BitRows.BitRows, Bits.HasBit, Bits.IsShaped, Bits.Adds, declared.plan.Homes.Homes, Homes.AreHomes, Homes.home_of}
+use Rattle.plan_defs.specs.{Tables.UsesTable, Tables.UsesTables, code.UserRows.HasPlace}
+use Rattle.plan_defs.proofs.{lemmas.AddLemmas.adds_both, lemmas.AddLemmas.adds_same, ListLemmas.listed_none, ListLemmas.listed_more, ListLemmas.listed_not}
 use Rattle.node_defs.specs.declared.items.Item.TheVariants.{Input, BlockBit, Node, Latch}
-use Rattle.node_defs.specs.declared.items.NodeNet.{NodeNet}
-use Rattle.node_defs.specs.WellFormed.{IsWellFormed}
-use Rattle.plan_defs.specs.declared.plan.Homes.{Homes}
-use Rattle.plan_defs.specs.Homes.{AreHomes, home_of}
-use Rattle.plan_defs.specs.Tables.{UsesTable, UsesTables}
-use Rattle.plan_defs.specs.code.UserRows.{HasPlace}
-use Rattle.plan_defs.proofs.ListLemmas.{listed_none, listed_more, listed_not}
-use Rattle.slot_plan.specs.UsedTables.{AreTableCounts}
-use Rattle.slot_plan.specs.code.UsedTables.{HasTable, CountsBelow, AreUsed}
+use Rattle.node_defs.specs.{declared.items.Feeds.Feeds, declared.items.Item.Item, declared.items.NodeNet.NodeNet, WellFormed.IsWellFormed}
+use Rattle.slot_plan.specs.{UsedTables.AreTableCounts, code.UsedTables.HasTable, code.UsedTables.CountsBelow, code.UsedTables.AreUsed}
 use Rattle.slot_plan.proofs.BoardLemmas.{row_room}
 
 abbrev pub UsesTableBelow : NodeNet → Homes → ℕ → ℕ → ℕ → Type 0

@@ -2,12 +2,9 @@
 use Rattle.std.specs.Prelude.{◌≡◌, ℕ, ◌<◌, ◌≤◌}
 use Rattle.machine_text.specs.declared.machine.Machine.{Machine}
 use Rattle.node_defs.specs.declared.items.NodeNet.{NodeNet}
-use Rattle.plan_defs.specs.declared.plan.Homes.{Homes}
-use Rattle.plan_defs.specs.declared.plan.Plan.{Plan}
-use Rattle.plan_defs.specs.Slots.{IsFirstFitPlan}
 use Rattle.plan_defs.specs.Tables.{UsesTables, FitsTables, slot_limit, table_limit}
-use Rattle.slot_plan.specs.declared.fit.PlanNo.{PlanNo}
-use Rattle.slot_plan.specs.declared.fit.PlanNo.TheVariants.{Slots, Functions, Memory}
+use Rattle.plan_defs.specs.{declared.plan.Homes.Homes, declared.plan.Plan.Plan, Slots.IsFirstFitPlan}
+use Rattle.slot_plan.specs.declared.fit.PlanNo.{PlanNo, TheVariants.Slots, TheVariants.Functions, TheVariants.Memory}
 
 -- the first-fit plan wants more slots than a turn has
 pub record IsLong (nodes : NodeNet) (homes : Homes) (machine : Machine) (needed limit : ℕ) : Type 0 where

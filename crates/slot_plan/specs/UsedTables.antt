@@ -1,8 +1,7 @@
 -- The tables that the nodes of each port use, as rows of bits.
 use Rattle.std.specs.Prelude.{◌≡◌, ℕ, ◌<◌, ◌≤◌, List, length, slice_index}
 use Rattle.node_defs.specs.declared.items.NodeNet.{NodeNet}
-use Rattle.plan_defs.specs.declared.plan.Homes.{Homes}
-use Rattle.plan_defs.specs.Tables.{UsesTables}
+use Rattle.plan_defs.specs.{declared.plan.Homes.Homes, Tables.UsesTables}
 
 -- the numbers of different tables that the nodes of the first so many ports use
 pub record AreTableCounts (nodes : NodeNet) (homes : Homes) (ports : ℕ) (counts : List ℕ) : Type 0 where

@@ -3,8 +3,7 @@
 ghost use Rattle.std.specs.Prelude.{◌≡◌, ◌↔◌, ◌+◌, ◌*◌, ◌^◌, ◌<◌, ◌≤◌, ℕ, Contains, IfOk};
 ghost use Rattle.std.specs.Int.{bit_at};
 ghost use Rattle.limits.specs.declared.TheConstants.{MAX_PORTS};
-ghost use Rattle.plan_defs.specs.Bits.{HasBit, Adds};
-ghost use Rattle.plan_defs.specs.Lists.{IsLeastFree};
+ghost use Rattle.plan_defs.specs.{Bits.HasBit, Bits.Adds, Lists.IsLeastFree};
 ghost use Rattle.slot_plan.specs.code.Boards.{HasRows, IsBoard, IsTaken, IsRuledOut, IsShut, IsRowFor, Finds};
 
 use plan_defs::BitRows;

@@ -1,8 +1,7 @@
 //! The first slot that comes after the operands of this turn.
 
 ghost use Rattle.std.specs.Prelude.{◌⊎◌, ◌↔◌, ◌<◌, ◌≤◌, ℕ, length};
-ghost use Rattle.node_defs.specs.declared.items.Feed.TheVariants.{From};
-ghost use Rattle.node_defs.specs.Takes.{FeedAwaits, IsOneOf, Awaits};
+ghost use Rattle.node_defs.specs.{declared.items.Feed.TheVariants.From, Takes.FeedAwaits, Takes.IsOneOf, Takes.Awaits};
 ghost use Rattle.slot_plan.specs.code.Early.{IsFrom};
 
 use node_defs::{Feed, Feeds, Item, Tag};

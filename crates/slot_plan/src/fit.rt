@@ -2,10 +2,7 @@
 
 ghost use Rattle.std.specs.Prelude.{◌≡◌, ◌≤◌, ◌<◌, ℕ, IfOk, IfErr, length};
 ghost use Rattle.node_defs.specs.WellFormed.{IsWellFormed};
-ghost use Rattle.plan_defs.specs.Homes.{AreHomes};
-ghost use Rattle.plan_defs.specs.Slots.{IsFirstFitPlan};
-ghost use Rattle.plan_defs.specs.Tables.{Fits};
-ghost use Rattle.plan_defs.specs.Tables.{slot_limit as slots_of, table_limit as tables_of};
+ghost use Rattle.plan_defs.specs.{Homes.AreHomes, Slots.IsFirstFitPlan, Tables.Fits, Tables.slot_limit as slots_of, Tables.table_limit as tables_of};
 ghost use Rattle.slot_plan.specs.Refusals.{IsRight};
 ghost use Rattle.slot_plan.specs.declared.fit.PlanNo.TheVariants as no;
 

@@ -2,9 +2,7 @@
 
 ghost use Rattle.std.specs.Prelude.{◌≡◌, ◌+◌, ◌<◌, ◌≤◌, IfOk, OnOk, Some, length, slice_get};
 ghost use Rattle.node_defs.specs.WellFormed.{IsWellFormed};
-ghost use Rattle.plan_defs.specs.Homes.{AreHomes, home_of};
-ghost use Rattle.plan_defs.specs.Readers.{IsReaderList};
-ghost use Rattle.plan_defs.specs.Slots.{IsFirstFitPlan};
+ghost use Rattle.plan_defs.specs.{Homes.AreHomes, Homes.home_of, Readers.IsReaderList, Slots.IsFirstFitPlan};
 
 use crate::board::Board;
 use crate::early::first_slot;

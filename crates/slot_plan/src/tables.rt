@@ -1,14 +1,11 @@
 //! The different tables that the nodes of each port use.
 
 ghost use Rattle.std.specs.Prelude.{◌≡◌, ◌+◌, ◌-◌, ◌*◌, ◌^◌, ◌<◌, ◌≤◌, ℕ, IfOk, IfSome, IsNone, if◌then◌else◌, length};
-ghost use Rattle.plan_defs.specs.Bits.{HasBit, Adds};
-ghost use Rattle.node_defs.specs.WellFormed.{IsWellFormed};
-ghost use Rattle.plan_defs.specs.Homes.{AreHomes};
-ghost use Rattle.plan_defs.specs.Tables.{UsesTable, FitsTables};
-ghost use Rattle.plan_defs.specs.Tables.{table_limit as limit_of};
+ghost use Rattle.plan_defs.specs.{Bits.HasBit, Bits.Adds, Homes.AreHomes, Tables.UsesTable, Tables.FitsTables, Tables.table_limit as limit_of};
 ghost use Rattle.plan_defs.specs.code.UserRows.{HasPlace};
-ghost use Rattle.slot_plan.specs.UsedTables.{AreTableCounts};
+ghost use Rattle.node_defs.specs.WellFormed.{IsWellFormed};
 ghost use Rattle.slot_plan.specs.code.UsedTables.{HasTable, AreUsed, CountsBelow, IsFirstCrowded};
+ghost use Rattle.slot_plan.specs.UsedTables.{AreTableCounts};
 
 use machine_text::{Limited, Machine};
 use node_defs::{Item, NodeNet};

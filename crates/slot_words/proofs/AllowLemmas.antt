@@ -1,30 +1,21 @@
 -- What the table asks of each kind of step.
 use Rattle.std.proofs.Common.{List, None, Some, [], ap, arith, eq-eqb, eqb, false, get_or, inl, inr, length, mod-lt, ne_eqb, refl, set, slice_get, subst, sym, true, ℕ, ◌%◌, ◌++◌, ◌+◌, ◌<◌, ◌∙◌, ◌∷◌, ◌≡◌, ◌≤◌}
-use Rattle.std.proofs.lemmas.Bool.{cases_eq}
-use Rattle.std.proofs.lemmas.List.{set-get_or}
+use Rattle.std.proofs.lemmas.{Bool.cases_eq, List.set-get_or}
 use mathlib.Core.Option.{none}
 use prog.Atomic.{either}
 use lib.ListN.{get_elem?}
 use mathlib.Core.Option.{some}
 use Rattle.atomic_table.proofs.Lists.{set_again}
 use Rattle.atomic_table.specs.Table.{Act, Allows, Splits, State, Valid, carried_after, keeps, step, stepped}
-use Rattle.image_defs.specs.Places.{IsPort, Stands}
-use Rattle.image_defs.specs.declared.image.Image.{Image}
-use Rattle.image_defs.specs.declared.image.LinkIn.{LinkIn}
-use Rattle.image_defs.specs.declared.image.LinkOut.{LinkOut}
+use Rattle.image_defs.specs.{Places.IsPort, Places.Stands, declared.image.Image.Image, declared.image.LinkIn.LinkIn, declared.image.LinkOut.LinkOut}
 use Rattle.image_defs.specs.declared.image.PortImage.{PortImage}
 use Rattle.event_defs.proofs.lemmas.PaceLemmas.{reader_in}
-use Rattle.event_defs.specs.Next.{EndsNext}
 use Rattle.event_defs.specs.Places.{IsSend, after_ask, after_put, after_take, after_tell, is_in, known_of}
+use Rattle.event_defs.specs.Next.{EndsNext}
 use Rattle.slot_words.proofs.StepLemmas.{ask_kept, claim_kept, kept_here, kept_there, put_kept, same_word, split_kept, stepped_view, take_finds, take_kept, tell_kept, told_more, wait_kept}
-use Rattle.slot_words.specs.Feeds.{AreFew, TellsTurns}
-use Rattle.slot_words.specs.Layout.{progress_in, send_word, turns_told}
-use Rattle.slot_words.specs.Passes.{WasSentBefore}
-use Rattle.slot_words.specs.Rule.{IsKept, Kept, steps_in}
 use Rattle.slot_words.specs.code.Plays.{Claims, Ends, FindsIn, Learns, Reads, Seated, Writes, after_step, claimed_by}
-use Rattle.slot_words.specs.declared.feed.Feed.{Ghosts}
-use Rattle.slot_words.specs.declared.rule.Key.{Key}
-use Rattle.slot_words.specs.declared.rule.TheConstants.{UNCLAIMED}
+use Rattle.slot_words.specs.{Feeds.AreFew, Feeds.TellsTurns, Layout.progress_in, Layout.send_word, Layout.turns_told, Passes.WasSentBefore}
+use Rattle.slot_words.specs.{Rule.IsKept, Rule.Kept, Rule.steps_in, declared.feed.Feed.Ghosts, declared.rule.Key.Key, declared.rule.TheConstants.UNCLAIMED}
 use Rattle.slot_words.specs.declared.rule.View.{View}
 
 true-ne-false : true ≡ false → ⊥

@@ -1,7 +1,6 @@
 -- Which turn a bank has.
 use Rattle.std.proofs.Common.{arith, div-add-mod', inl, inr, mod-lt, suc, sym, zero, ℕ, ◌%◌, ◌*◌, ◌+◌, ◌/◌, ◌<◌, ◌∙◌, ◌≡◌, ◌≤◌, ◌⊎◌}
-use Rattle.std.proofs.lemmas.Bool.{cases_eq, cases_lt}
-use Rattle.std.proofs.lemmas.Nat.{mod-mul-add}
+use Rattle.std.proofs.lemmas.{Bool.cases_eq, Bool.cases_lt, Nat.mod-mul-add}
 
 -- a turn of the bank: one of the last ones, as many as there are banks, or one to come where it has had none
 abbrev pub HasTurn : ℕ → ℕ → ℕ → Type 0

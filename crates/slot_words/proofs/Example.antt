@@ -1,10 +1,7 @@
 -- What words hold, by numbers worked out by hand.
 use Rattle.std.proofs.Common.{Some, false, refl, true, ◌+◌, ◌*◌, ◌≡◌}
-use Rattle.logic_four.specs.Values.{code_of}
-use Rattle.logic_four.specs.declared.V4.TheVariants.{Undef}
-use Rattle.slot_words.specs.code.PlainWords.{IsTakenOf}
-use Rattle.slot_words.specs.declared.crossbar.Taken.TheVariants.{Value}
-use Rattle.slot_words.specs.plain.Words.{is_of}
+use Rattle.logic_four.specs.{Values.code_of, declared.V4.TheVariants.Undef}
+use Rattle.slot_words.specs.{code.PlainWords.IsTakenOf, declared.crossbar.Taken.TheVariants.Value, plain.Words.is_of}
 
 -- 14 is the word of an undefined value in turn 3, and of no other turn
 pub word_of_undefined : 4 * 3 + code_of Undef ≡ 14

@@ -1,30 +1,17 @@
 -- A pass with its crossbar.
 use Rattle.std.proofs.Common.{Bool, List, None, Option, Some, ap, ap₂, arith, false, get_or, if◌then◌else◌, length, mod-lt, refl, slice_get, subst, sym, true, ℕ, ◌%◌, ◌*◌, ◌+◌, ◌<◌, ◌∙◌, ◌≡◌}
-use Rattle.image_defs.specs.Places.{IsPort}
-use Rattle.image_defs.specs.declared.image.LinkIn.{LinkIn}
-use Rattle.image_defs.specs.declared.image.LinkOut.{LinkOut}
-use Rattle.image_defs.specs.declared.image.PortImage.{PortImage}
+use Rattle.image_defs.specs.{Places.IsPort, declared.image.LinkIn.LinkIn, declared.image.LinkOut.LinkOut, declared.image.PortImage.PortImage}
 use Rattle.image_defs.specs.declared.image.Image.{Image}
-use Rattle.event_defs.specs.Places.{IsSend, after_take}
-use Rattle.event_defs.specs.Row.{send_number}
-use Rattle.event_defs.specs.declared.place.Place.{Place}
+use Rattle.event_defs.specs.{Places.IsSend, Places.after_take, Row.send_number, declared.place.Place.Place}
 use mathlib.Core.Option.{none}
-use Rattle.atomic_table.specs.Table.{step}
-use Rattle.atomic_table.specs.Seated.{TableId}
-use Rattle.atomic_table.specs.declared.shared.Seat.{Seat}
-use Rattle.slot_words.proofs.LinkLemmas.{receipt_found, send_found}
-use Rattle.slot_words.proofs.lemmas.TimeLemmas.{progress_within, send_room}
-use Rattle.slot_words.specs.declared.feed.Feed.{Ghosts}
-use Rattle.slot_words.specs.declared.words.Words.TheInside as bar
-use Rattle.slot_words.specs.declared.pass.Pass.TheInside.{Inside}
-use Rattle.slot_words.specs.declared.links.Link.{Link}
-use Rattle.slot_words.specs.declared.rule.View.{View}
+use Rattle.atomic_table.specs.{Table.step, Seated.TableId, declared.shared.Seat.Seat}
+use Rattle.slot_words.proofs.{LinkLemmas.receipt_found, LinkLemmas.send_found, lemmas.TimeLemmas.progress_within, lemmas.TimeLemmas.send_room}
 use Rattle.slot_words.specs.Held.{HasWords, IsHeld, pass_of, words_of}
-use Rattle.slot_words.specs.Layout.{send_word, word_count}
-use Rattle.slot_words.specs.Links.{AreReceiptLinksOf, AreSendLinksOf, HasSlot}
 use Rattle.slot_words.specs.Passes.{IsNumber, IsOf, PassView, WasSentBefore, WordsView, one_step}
 use Rattle.slot_words.specs.code.Plays.{FindsIn, Reads, Seated, after_step}
-use Rattle.slot_words.specs.Rule.{IsRunnable}
+use Rattle.slot_words.specs.declared.{feed.Feed.Ghosts, pass.Pass.TheInside.Inside, links.Link.Link, rule.View.View}
+use Rattle.slot_words.specs.{Layout.send_word, Layout.word_count, Links.AreReceiptLinksOf, Links.AreSendLinksOf, Links.HasSlot, Rule.IsRunnable}
+use Rattle.slot_words.specs.declared.words.Words.TheInside as bar
 
 -- what is said of the values holds of the fields
 pub own_fields : {D F : Type 0} (b : bar.Inside D F) (a : Inside D F) (bar_is : WordsView D) (pass_is : PassView D) → words_of b ≡ bar_is → pass_of a ≡ pass_is → IsOf bar_is pass_is → IsOf (words_of b) (pass_of a)

@@ -1,19 +1,13 @@
 -- Links by their slots.
 use Rattle.std.proofs.Common.{List, Some, ap, arith, get_or, inl, inr, length, slice_get, subst, sym, ℕ, ◌+◌, ◌<◌, ◌∙◌, ◌≡◌}
-use Rattle.std.proofs.lemmas.Bool.{cases_eq}
-use Rattle.std.proofs.lemmas.Option.{get_or_from_slice_get, slice_get-get_or, slice_get_within}
+use Rattle.std.proofs.lemmas.{Bool.cases_eq, Option.get_or_from_slice_get, Option.slice_get-get_or, Option.slice_get_within}
 use Rattle.list_laws.proofs.Members.{member_at}
-use Rattle.image_defs.specs.Places.{IsPort}
-use Rattle.image_defs.specs.WellFormed.{IsWellFormed}
-use Rattle.image_defs.specs.declared.image.Image.{Image}
-use Rattle.image_defs.specs.declared.image.LinkIn.{LinkIn}
-use Rattle.image_defs.specs.declared.image.LinkOut.{LinkOut}
+use Rattle.image_defs.specs.{Places.IsPort, WellFormed.IsWellFormed, declared.image.Image.Image, declared.image.LinkIn.LinkIn, declared.image.LinkOut.LinkOut}
 use Rattle.image_defs.specs.declared.image.PortImage.{PortImage}
 use Rattle.event_defs.proofs.lemmas.PaceLemmas.{same_receipt, same_send}
 use Rattle.event_defs.specs.Places.{IsSend}
-use Rattle.slot_words.specs.declared.links.Link.{Link}
-use Rattle.slot_words.specs.Layout.{send_word}
 use Rattle.slot_words.specs.Links.{AreReceiptLinksOf, AreSendLinksOf, HasSlot, IsSourceWord}
+use Rattle.slot_words.specs.{declared.links.Link.Link, Layout.send_word}
 
 pub slot_here : (links : List Link) (slot k : ℕ) (d : Link) → k < length links → (get_or links k d).slot ≡ slot → HasSlot links slot k
 slot_here links slot k d inside e = record { link = get_or links k d; is = slice_get-get_or links k d inside; slot_is = e }

@@ -1,20 +1,15 @@
 -- What passes saw at their last steps: each kind of step keeps it.
 use Rattle.std.proofs.Common.{Bool, List, None, Some, [], ap, arith, get_or, get_or-set_other, get_or-set_same, if◌then◌else◌, inl, inr, length, lt-ltb, nat_lt, refl, set, subst, suc, sym, zero, ℕ, ◌++◌, ◌+◌, ◌<◌, ◌∙◌, ◌∷◌, ◌≡◌, ◌≤◌}
-use Rattle.std.proofs.lemmas.Bool.{cases_eq, le-ltb}
-use Rattle.std.proofs.lemmas.List.Sums.{sum_by-set, sum_by_push}
+use Rattle.std.proofs.lemmas.{Bool.cases_eq, Bool.le-ltb, List.Sums.sum_by-set, List.Sums.sum_by_push}
 use mathlib.Core.Option.{some, some-injective, some-ne-none}
 use lib.ListN.{get_elem?}
 use Rattle.atomic_table.proofs.Lists.{at_longer, at_set, at_snoc, set_else, set_here}
 use Rattle.image_defs.specs.declared.image.Image.{Image}
-use Rattle.event_defs.specs.Row.{send_number, word_place}
-use Rattle.event_defs.specs.declared.place.Place.{Place}
-use Rattle.slot_words.proofs.OwnLemmas.{only_one, within}
-use Rattle.slot_words.proofs.lemmas.SoundLemmas.{told_none}
-use Rattle.slot_words.specs.declared.rule.TheConstants.{UNCLAIMED}
-use Rattle.slot_words.specs.declared.rule.View.{View}
+use Rattle.event_defs.specs.{Row.send_number, Row.word_place, declared.place.Place.Place}
+use Rattle.slot_words.proofs.{OwnLemmas.only_one, OwnLemmas.within, lemmas.SoundLemmas.told_none}
 use Rattle.slot_words.specs.Layout.{progress_in, send_word, told_in, turns_told}
-use Rattle.slot_words.specs.code.Plays.{after_step, claimed_by}
 use Rattle.slot_words.specs.Rule.{AreLooks, HasLast, steps_in, unseated}
+use Rattle.slot_words.specs.{declared.rule.TheConstants.UNCLAIMED, declared.rule.View.View, code.Plays.after_step, code.Plays.claimed_by}
 
 -- ---- what words tell
 

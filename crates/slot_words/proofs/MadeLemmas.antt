@@ -1,23 +1,13 @@
 -- The links of a port, made one by one.
 use Rattle.std.proofs.Common.{List, Some, [], ap, ap₂, arith, inl, inr, length, slice_get, slice_index_or, subst, sym, ℕ, ◌*◌, ◌++◌, ◌+◌, ◌<◌, ◌^◌, ◌∙◌, ◌∷◌, ◌≡◌}
-use Rattle.std.proofs.lemmas.Bool.{cases_lt}
-use Rattle.std.proofs.lemmas.List.{length_push}
-use Rattle.std.proofs.lemmas.Option.{get_or_from_slice_get, slice_get_within}
+use Rattle.std.proofs.lemmas.{Bool.cases_lt, List.length_push, Option.get_or_from_slice_get, Option.slice_get_within}
 use Rattle.list_laws.proofs.Places.{at_front, seam_at}
-use Rattle.image_defs.specs.Places.{IsPort}
-use Rattle.image_defs.specs.WellFormed.{IsWellFormed}
-use Rattle.image_defs.specs.declared.image.Image.{Image}
-use Rattle.image_defs.specs.declared.image.LinkIn.{LinkIn}
-use Rattle.image_defs.specs.declared.image.LinkOut.{LinkOut}
+use Rattle.image_defs.specs.{Places.IsPort, WellFormed.IsWellFormed, declared.image.Image.Image, declared.image.LinkIn.LinkIn, declared.image.LinkOut.LinkOut}
 use Rattle.image_defs.specs.declared.image.PortImage.{PortImage}
-use Rattle.event_defs.proofs.lemmas.PaceLemmas.{same_port}
-use Rattle.event_defs.proofs.lemmas.RowLemmas.{number_within, send_within}
-use Rattle.event_defs.specs.Row.{sends_before}
+use Rattle.event_defs.proofs.lemmas.{PaceLemmas.same_port, RowLemmas.number_within, RowLemmas.send_within}
 use Rattle.event_defs.proofs.SourceLemmas.{before_few, entry_there, outs_few}
-use Rattle.event_defs.specs.Sources.{AreFirsts, IsSource}
-use Rattle.slot_words.specs.declared.links.Link.{Link}
-use Rattle.slot_words.specs.Layout.{send_word}
-use Rattle.slot_words.specs.Links.{AreReceiptLinks, AreSendLinks, IsSourceWord}
+use Rattle.event_defs.specs.{Row.sends_before, Sources.AreFirsts, Sources.IsSource}
+use Rattle.slot_words.specs.{declared.links.Link.Link, Layout.send_word, Links.AreReceiptLinks, Links.AreSendLinks, Links.IsSourceWord}
 
 -- where a list that is one longer has its old members and the new one
 longer : (links next : List Link) (one : Link) (n k : ℕ) → length links ≡ n → next ≡ links ++ one ∷ [] → k < n → slice_get next k ≡ slice_get links k

@@ -1,29 +1,17 @@
 -- The rule holds before the first step.
 use Rattle.std.proofs.Common.{List, None, Some, [], ap, ap₂, arith, drop, inl, inr, length, length-append, mul-le-mul, replicate, slice_get, subst, sym, ℕ, ◌*◌, ◌++◌, ◌+◌, ◌<◌, ◌^◌, ◌∙◌, ◌∷◌, ◌≡◌, ◌≤◌}
-use Rattle.std.proofs.lemmas.Bool.{cases_lt}
-use Rattle.std.proofs.lemmas.Option.{slice_get_within}
-use Rattle.list_laws.proofs.Places.{at_front, seam_at}
-use Rattle.std.proofs.Math.Seq.{drop-append_seam}
 use Rattle.std.proofs.lemmas.List.{get_or-replicate, get_or_append_left, length-replicate, length_push}
-use Rattle.image_defs.specs.WellFormed.{IsWellFormed}
-use Rattle.image_defs.specs.declared.image.Image.{Image}
-use Rattle.event_defs.proofs.lemmas.PaceLemmas.{starts}
-use Rattle.event_defs.proofs.lemmas.RowLemmas.{words_zero}
-use Rattle.event_defs.specs.Places.{start}
-use Rattle.event_defs.specs.Row.{send_count, word_in}
-use Rattle.event_defs.proofs.SourceLemmas.{before_few}
-use Rattle.slot_words.proofs.LookLemmas.{looks_first}
-use Rattle.slot_words.proofs.OwnLemmas.{owned_first}
-use Rattle.slot_words.proofs.SentLemmas.{starts_sent}
-use Rattle.slot_words.proofs.lemmas.TimeLemmas.{progress_within}
-use Rattle.slot_words.specs.declared.feed.Feed.{Ghosts}
-use Rattle.slot_words.specs.declared.words.Words.TheInside as bar
-use Rattle.slot_words.specs.declared.rule.TheConstants.{UNCLAIMED}
-use Rattle.slot_words.specs.declared.rule.View.{View}
-use Rattle.slot_words.specs.Held.{HasWords, words_of}
-use Rattle.slot_words.specs.Layout.{progress_in, sent_in, word_count}
+use Rattle.std.proofs.{lemmas.Bool.cases_lt, lemmas.Option.slice_get_within, Math.Seq.drop-append_seam}
+use Rattle.list_laws.proofs.Places.{at_front, seam_at}
+use Rattle.image_defs.specs.{WellFormed.IsWellFormed, declared.image.Image.Image}
+use Rattle.event_defs.proofs.{lemmas.PaceLemmas.starts, lemmas.RowLemmas.words_zero, SourceLemmas.before_few}
+use Rattle.event_defs.specs.{Places.start, Row.send_count, Row.word_in}
+use Rattle.slot_words.proofs.{LookLemmas.looks_first, OwnLemmas.owned_first, SentLemmas.starts_sent, lemmas.TimeLemmas.progress_within}
 use Rattle.slot_words.specs.Passes.{AreFirstPasses, IsFirstPass, PassView, WordsView}
 use Rattle.slot_words.specs.Rule.{AreSent, IsKept, IsRunnable, unseated}
+use Rattle.slot_words.specs.{declared.feed.Feed.Ghosts, declared.rule.TheConstants.UNCLAIMED, declared.rule.View.View, Held.HasWords, Held.words_of}
+use Rattle.slot_words.specs.Layout.{progress_in, sent_in, word_count}
+use Rattle.slot_words.specs.declared.words.Words.TheInside as bar
 
 -- words of sends are few
 pub few_words : (image : Image) (banks : ℕ) → IsWellFormed image → banks ≤ 8 → send_count image * banks < 2 ^ 32

@@ -6,14 +6,9 @@ use lib.ListN.{get_elem?}
 use Rattle.atomic_table.proofs.Lists.{at_longer, at_set, at_snoc, set_else, set_here}
 use Rattle.image_defs.specs.declared.image.Image.{Image}
 use Rattle.event_defs.proofs.lemmas.SlotLemmas.{updated_here, updated_there}
-use Rattle.event_defs.specs.Places.{start}
-use Rattle.event_defs.specs.Steps.{updated}
-use Rattle.event_defs.specs.declared.place.Place.{Place}
-use Rattle.slot_words.specs.declared.rule.TheConstants.{UNCLAIMED}
-use Rattle.slot_words.specs.declared.rule.View.{View}
-use Rattle.slot_words.specs.Layout.{progress_in}
-use Rattle.slot_words.specs.code.Plays.{after_step, claimed_by}
+use Rattle.event_defs.specs.{Places.start, Steps.updated, declared.place.Place.Place}
 use Rattle.slot_words.specs.Rule.{AreOwned, IsPassOf, IsSeatOf, unseated}
+use Rattle.slot_words.specs.{declared.rule.TheConstants.UNCLAIMED, declared.rule.View.View, Layout.progress_in, code.Plays.after_step, code.Plays.claimed_by}
 
 pub within : {A : Type 0} (l : List A) (i : ℕ) (a : A) → get_elem? l i ≡ some a → i < length l
 within [] i a at = absurd (some-ne-none a (sym at))

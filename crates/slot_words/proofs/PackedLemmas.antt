@@ -1,18 +1,13 @@
 -- What the rule of words says of packed ones.
 use Rattle.std.proofs.Common.{List, None, Option, Some, ap, ap₂, arith, eq-eqb, false, if◌then◌else◌, inl, inr, ne_eqb, slice_get, subst, sym, true, ℕ, ◌%◌, ◌*◌, ◌+◌, ◌∙◌, ◌≡◌, ◌≢◌, ◌≤◌}
-use Rattle.std.specs.Prelude.{◌==◌}
 use Rattle.std.proofs.lemmas.Bool.{cases_eq, eqb-true}
+use Rattle.std.specs.Prelude.{◌==◌}
 use mathlib.Core.Option.{some}
 use lib.ListN.{get_elem?}
-use Rattle.logic_four.specs.Values.{code_of}
-use Rattle.logic_four.specs.declared.V4.{V4}
+use Rattle.logic_four.specs.{Values.code_of, declared.V4.V4}
 use Rattle.lane_planes.specs.declared.planes.Planes.{Planes}
 use Rattle.stim_text.specs.declared.lanes.Lanes.{Lanes}
-use Rattle.image_defs.specs.Frames.{image_value}
-use Rattle.image_defs.specs.Places.{Stands}
-use Rattle.image_defs.specs.declared.image.Image.{Image}
-use Rattle.image_defs.specs.declared.image.LinkOut.{LinkOut}
-use Rattle.image_defs.specs.declared.image.PortImage.{PortImage}
+use Rattle.image_defs.specs.{Frames.image_value, Places.Stands, declared.image.Image.Image, declared.image.LinkOut.LinkOut, declared.image.PortImage.PortImage}
 use Rattle.event_defs.proofs.lemmas.WordLemmas.{first_coded, put_coded}
 use Rattle.event_defs.proofs.lemmas.WordLemmas as plain
 use Rattle.event_defs.specs.Places.{IsSend, after_put, known_of, latest}
@@ -20,17 +15,14 @@ use Rattle.event_defs.specs.Sound.{AreCoded, AreStamped, AreStamps, IsCoded}
 use Rattle.event_defs.specs.Steps as plain_stamp
 use Rattle.atomic_table.specs.Table.{State}
 use Rattle.slot_words.proofs.AllowLemmas as bank
-use Rattle.slot_words.proofs.lemmas.SoundLemmas.{counts, unclaimed_is}
-use Rattle.slot_words.proofs.WordLemmas.{read_back}
+use Rattle.slot_words.proofs.{lemmas.SoundLemmas.counts, lemmas.SoundLemmas.unclaimed_is, WordLemmas.read_back}
 use Rattle.slot_words.specs.Layout.{progress_in, send_word, sent_in, turns_told}
 use Rattle.slot_words.specs.Passes.{CanPutIn, HasPut, HasTaken, IsNumber}
-use Rattle.slot_words.specs.Rule.{AreBanked, IsKept, IsRunnable}
-use Rattle.slot_words.specs.code.PackedWords.{IsTakenOf}
-use Rattle.slot_words.specs.declared.pack_words.words.PackTaken.{PackTaken}
-use Rattle.slot_words.specs.declared.pack_words.words.PackTaken.TheVariants.{NotYet, Value}
 use Rattle.slot_words.specs.packed.Passes.{AreValues, CanPut, IsFit, IsFound, IsPut, IsTake, PackPassView, one_step}
 use Rattle.slot_words.specs.packed.Sound.{ArePassesSound, IsPackOf, Kept, PackKey, PackView}
 use Rattle.slot_words.specs.packed.Words.{HasPlanes, packed, packs, stamp_in, packed_stamp_of, stimulus_of, turns_of}
+use Rattle.slot_words.specs.{Rule.AreBanked, Rule.IsKept, Rule.IsRunnable, code.PackedWords.IsTakenOf, declared.pack_words.words.PackTaken.PackTaken}
+use Rattle.slot_words.specs.declared.pack_words.words.PackTaken.TheVariants.{NotYet, Value}
 
 -- ---- one bank
 

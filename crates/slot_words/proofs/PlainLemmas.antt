@@ -1,27 +1,18 @@
 -- What the rule of words says of plain ones.
 use Rattle.std.proofs.Common.{None, Option, Some, ap, arith, inl, inr, subst, sym, ℕ, ◌%◌, ◌*◌, ◌+◌, ◌<◌, ◌∙◌, ◌≡◌}
 use Rattle.std.proofs.lemmas.Bool.{cases_eq, eqb-true}
-use Rattle.logic_four.specs.Values.{code_of}
-use Rattle.logic_four.specs.declared.V4.{V4}
+use Rattle.logic_four.specs.{Values.code_of, declared.V4.V4}
 use Rattle.net_defs.specs.declared.stimulus.Stimulus.{Stimulus}
-use Rattle.image_defs.specs.Frames.{image_value}
-use Rattle.image_defs.specs.declared.image.Image.{Image}
+use Rattle.image_defs.specs.{Frames.image_value, declared.image.Image.Image}
 use Rattle.event_defs.proofs.lemmas.WordLemmas.{decoded, first_coded, put_coded, stamp_in}
-use Rattle.event_defs.specs.Places.{after_put}
-use Rattle.event_defs.specs.Sound.{AreStamps, IsCoded}
-use Rattle.event_defs.specs.Steps.{stamp_of}
+use Rattle.event_defs.specs.{Places.after_put, Sound.AreStamps, Sound.IsCoded, Steps.stamp_of}
 use Rattle.atomic_table.specs.Table.{State}
-use Rattle.slot_words.proofs.BankLemmas.{turn_in}
-use Rattle.slot_words.proofs.lemmas.SoundLemmas.{counts, unclaimed_is}
-use Rattle.slot_words.specs.Layout.{send_word}
+use Rattle.slot_words.proofs.{BankLemmas.turn_in, lemmas.SoundLemmas.counts, lemmas.SoundLemmas.unclaimed_is}
 use Rattle.slot_words.specs.Passes.{HasPut, HasTaken, IsNumber, WasSentBefore}
-use Rattle.slot_words.specs.Rule.{AreBanked}
-use Rattle.slot_words.specs.code.PlainWords.{IsTakenOf}
-use Rattle.slot_words.specs.declared.crossbar.Taken.{Taken}
-use Rattle.slot_words.specs.declared.crossbar.Taken.TheVariants.{NotYet, Value}
 use Rattle.slot_words.specs.plain.Passes.{IsFound, IsPut, IsTake, PassView, one_step}
 use Rattle.slot_words.specs.plain.Sound.{ArePassesSound, Kept, PlainKey, PlainView}
-use Rattle.slot_words.specs.plain.Words.{plain, turns_of}
+use Rattle.slot_words.specs.{Layout.send_word, Rule.AreBanked, code.PlainWords.IsTakenOf, declared.crossbar.Taken.Taken}
+use Rattle.slot_words.specs.{declared.crossbar.Taken.TheVariants.NotYet, declared.crossbar.Taken.TheVariants.Value, plain.Words.plain, plain.Words.turns_of}
 
 -- ---- what a put and a take do, by the values
 

@@ -1,21 +1,13 @@
 -- What each step makes of the words of sends, and what a reader finds in one.
 use Rattle.std.proofs.Common.{ap, arith, false, inl, inr, length, refl, subst, sym, true, ℕ, ◌%◌, ◌+◌, ◌-◌, ◌∙◌, ◌≡◌, ◌≤◌, ◌⊎◌}
-use Rattle.std.proofs.Math.Nat.{add-mod_right}
-use Rattle.std.proofs.lemmas.Bool.{cases_eq, cases_lt}
-use Rattle.image_defs.specs.WellFormed.{IsWellFormed}
-use Rattle.image_defs.specs.declared.image.Image.{Image}
-use Rattle.image_defs.specs.declared.image.LinkOut.{LinkOut}
+use Rattle.std.proofs.{Math.Nat.add-mod_right, lemmas.Bool.cases_eq, lemmas.Bool.cases_lt}
+use Rattle.image_defs.specs.{WellFormed.IsWellFormed, declared.image.Image.Image, declared.image.LinkOut.LinkOut}
 use Rattle.event_defs.proofs.lemmas.PaceLemmas.{latest_here, latest_missing, latest_there, one_send, same_send}
 use Rattle.event_defs.proofs.lemmas.SlotLemmas.{each_updated, updated_here, updated_there}
-use Rattle.event_defs.proofs.lemmas.StampLemmas.{written_here, written_there}
-use Rattle.event_defs.proofs.lemmas.WordLemmas.{other_bank}
+use Rattle.event_defs.proofs.lemmas.{StampLemmas.written_here, StampLemmas.written_there, WordLemmas.other_bank}
 use Rattle.event_defs.specs.Places.{IsSend, after_put, is_in, latest, start}
-use Rattle.event_defs.specs.Steps.{updated, written}
-use Rattle.event_defs.specs.declared.place.Place.{Place}
-use Rattle.slot_words.specs.Feeds.{TellsTurns}
-use Rattle.slot_words.specs.Passes.{WasSentBefore}
-use Rattle.slot_words.specs.Rule.{AreBanked, AreSent}
-use Rattle.slot_words.specs.declared.feed.Feed.{Ghosts}
+use Rattle.event_defs.specs.{Steps.updated, Steps.written, declared.place.Place.Place}
+use Rattle.slot_words.specs.{Feeds.TellsTurns, Passes.WasSentBefore, Rule.AreBanked, Rule.AreSent, declared.feed.Feed.Ghosts}
 
 module _ {F D : Type 0} (g : Ghosts F D) (image : Image) (feed : D) (banks : ℕ) where
   -- a put of the next turn

@@ -1,40 +1,25 @@
 -- Each of the six kinds of step keeps the rule.
 use Rattle.std.proofs.Common.{List, None, Some, [], ap, arith, drop, false, get_or, get_or-set_other, get_or-set_same, inl, inr, length, length-set, mod-lt, refl, set, slice_get, subst, sym, true, ℕ, ◌%◌, ◌++◌, ◌+◌, ◌-◌, ◌<◌, ◌∙◌, ◌∷◌, ◌≡◌, ◌≢◌, ◌⊎◌, ◌≤◌}
-use Rattle.std.proofs.lemmas.Bool.{cases_eq}
-use Rattle.std.proofs.lemmas.List.{get_or-drop}
+use Rattle.std.proofs.lemmas.{Bool.cases_eq, List.get_or-drop}
 use mathlib.Core.Option.{some}
 use lib.ListN.{get_elem?}
 use Rattle.atomic_table.proofs.Lists.{set_again}
 use Rattle.list_laws.proofs.Members.{member_at}
-use Rattle.image_defs.specs.Places.{IsPort, Stands}
-use Rattle.image_defs.specs.WellFormed.{IsWellFormed}
-use Rattle.image_defs.specs.declared.image.Image.{Image}
-use Rattle.image_defs.specs.declared.image.LinkIn.{LinkIn}
-use Rattle.image_defs.specs.declared.image.LinkOut.{LinkOut}
-use Rattle.image_defs.specs.declared.image.PortImage.{PortImage}
+use Rattle.image_defs.specs.{Places.IsPort, Places.Stands, WellFormed.IsWellFormed, declared.image.Image.Image, declared.image.LinkIn.LinkIn}
+use Rattle.image_defs.specs.declared.image.{LinkOut.LinkOut, PortImage.PortImage}
 use Rattle.event_defs.proofs.lemmas.PaceLemmas.{latest_put, one_send, same_send, send_at, source}
 use Rattle.event_defs.proofs.lemmas.RowLemmas.{same_number, same_place, send_within, word_at}
 use Rattle.event_defs.proofs.lemmas.SlotLemmas.{updated_same}
-use Rattle.event_defs.specs.Next.{EndsNext}
 use Rattle.event_defs.specs.Places.{IsSend, after_ask, after_put, after_take, after_tell, is_in, known_of, latest}
-use Rattle.event_defs.specs.Row.{send_number, word_place}
-use Rattle.event_defs.specs.Sound.{ArePaced}
-use Rattle.event_defs.specs.Steps.{updated}
-use Rattle.event_defs.specs.declared.place.Place.{Place}
+use Rattle.event_defs.specs.{Next.EndsNext, Row.send_number, Row.word_place, Sound.ArePaced, Steps.updated, declared.place.Place.Place}
 use Rattle.slot_words.proofs.LookLemmas.{looks_claimed, looks_split, looks_stepped, told_progress, told_sent}
 use Rattle.slot_words.proofs.OwnLemmas.{SameClaims, owned_claimed, owned_split, owned_stepped}
-use Rattle.slot_words.proofs.SentLemmas.{found_sent, sent_put, sent_still}
-use Rattle.slot_words.proofs.lemmas.SoundLemmas.{counts, told_some}
 use Rattle.slot_words.proofs.lemmas.TimeLemmas.{progress_kept, progress_set, send_room, sent_set, turns_ask, turns_claim, turns_put, turns_take, turns_tell}
-use Rattle.slot_words.specs.Feeds.{AreFew, TellsTurns}
+use Rattle.slot_words.proofs.{SentLemmas.found_sent, SentLemmas.sent_put, SentLemmas.sent_still, lemmas.SoundLemmas.counts, lemmas.SoundLemmas.told_some}
 use Rattle.slot_words.specs.Layout.{progress_in, send_word, sent_in, told_in, turns_told}
-use Rattle.slot_words.specs.Passes.{WasSentBefore}
 use Rattle.slot_words.specs.Rule.{AreInTurn, AreOwned, AreSent, IsKept, IsPassOf, steps_in}
-use Rattle.slot_words.specs.code.Plays.{after_step, claimed_by}
-use Rattle.slot_words.specs.declared.feed.Feed.{Ghosts}
-use Rattle.slot_words.specs.declared.rule.Key.{Key}
-use Rattle.slot_words.specs.declared.rule.TheConstants.{UNCLAIMED}
-use Rattle.slot_words.specs.declared.rule.View.{View}
+use Rattle.slot_words.specs.{Feeds.AreFew, Feeds.TellsTurns, Passes.WasSentBefore, code.Plays.after_step, code.Plays.claimed_by, declared.feed.Feed.Ghosts}
+use Rattle.slot_words.specs.declared.rule.{Key.Key, TheConstants.UNCLAIMED, View.View}
 
 module _ (image : Image) (banks : ℕ) where
   pub sent_read : (words : List ℕ) (p i b : ℕ) (link : LinkOut) → IsSend image p i link → b < banks → get_or words (send_word image banks p i b) 0 ≡ sent_in image banks words p i b

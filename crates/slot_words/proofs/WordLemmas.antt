@@ -3,8 +3,7 @@ use Rattle.std.proofs.Common.{ap, arith, refl, subst, sym, ℕ, ◌%◌, ◌+◌
 use Rattle.std.proofs.Math.Bridge.{le_prop}
 use Rattle.limits.specs.declared.TheConstants.{LANES}
 use Rattle.lane_planes.specs.declared.planes.Planes.{Planes}
-use Rattle.slot_words.specs.packed.Laws.{packed_stamp}
-use Rattle.slot_words.specs.declared.pack_words.words.PackTaken.{PackTaken}
+use Rattle.slot_words.specs.{packed.Laws.packed_stamp, declared.pack_words.words.PackTaken.PackTaken}
 use Rattle.slot_words.specs.declared.pack_words.words.PackTaken.TheVariants.{NotYet, Value}
 use Rattle.slot_words.specs.packed.Words.{IsReadIn, packed}
 

@@ -1,8 +1,7 @@
 -- What is asked of the numbers that words hold, and of what they are made from.
 use Rattle.std.specs.Prelude.{◌≡◌, Bool, ℕ, ◌+◌, ◌<◌, ◌≤◌, ◌^◌, false, true}
 use Rattle.limits.specs.declared.TheConstants.{MAX_BANKS}
-use Rattle.image_defs.specs.WellFormed.{IsWellFormed}
-use Rattle.image_defs.specs.declared.image.Image.{Image}
+use Rattle.image_defs.specs.{WellFormed.IsWellFormed, declared.image.Image.Image}
 
 -- runs have few turns, and sends few banks
 pub record AreFew {D : Type 0} (runs : Image → D → Type 0) (turns : Image → D → ℕ) (most : ℕ) : Type 0 where

@@ -1,12 +1,8 @@
 -- What holds of the fields of a pass and of words.
 use Rattle.std.specs.Prelude.{◌≡◌, ◌<◌, Some, length}
-use Rattle.slot_words.specs.declared.feed.Feed.{Ghosts}
-use Rattle.slot_words.specs.declared.pass.Pass.TheInside.{Inside}
+use Rattle.slot_words.specs.{declared.feed.Feed.Ghosts, declared.pass.Pass.TheInside.Inside, Layout.word_count, Links.AreReceiptLinksOf, Links.AreSendLinksOf}
+use Rattle.slot_words.specs.{Passes.PassView, Passes.WordsView, Rule.IsRunnable}
 use Rattle.slot_words.specs.declared.words.Words.TheInside as bar
-use Rattle.slot_words.specs.Layout.{word_count}
-use Rattle.slot_words.specs.Links.{AreReceiptLinksOf, AreSendLinksOf}
-use Rattle.slot_words.specs.Passes.{PassView, WordsView}
-use Rattle.slot_words.specs.Rule.{IsRunnable}
 
 module _ {D F : Type 0} where
   abbrev pub pass_of : Inside D F → PassView D

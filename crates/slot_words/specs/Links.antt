@@ -1,13 +1,9 @@
 -- What a pass finds its words by: for each send and each receipt of its port, the slot and the word of bank 0.
 use Rattle.std.specs.Prelude.{◌≡◌, ℕ, ◌<◌, List, Some, length, slice_get}
-use Rattle.image_defs.specs.Places.{IsPort}
-use Rattle.image_defs.specs.declared.image.Image.{Image}
-use Rattle.image_defs.specs.declared.image.LinkIn.{LinkIn}
-use Rattle.image_defs.specs.declared.image.LinkOut.{LinkOut}
+use Rattle.image_defs.specs.{Places.IsPort, declared.image.Image.Image, declared.image.LinkIn.LinkIn, declared.image.LinkOut.LinkOut}
 use Rattle.image_defs.specs.declared.image.PortImage.{PortImage}
 use Rattle.event_defs.specs.Places.{IsSend}
-use Rattle.slot_words.specs.declared.links.Link.{Link}
-use Rattle.slot_words.specs.Layout.{send_word}
+use Rattle.slot_words.specs.{declared.links.Link.Link, Layout.send_word}
 
 -- link number k is of this slot
 pub record HasSlot (links : List Link) (slot k : ℕ) : Type 0 where

@@ -1,19 +1,11 @@
 -- Words and a pass as contracts see them, and what each call does.
 use Rattle.std.specs.Prelude.{◌≡◌, ℕ, ◌+◌, ◌%◌, ◌<◌, ◌≤◌, false, true, List, None, Option, Some, length, slice_get}
-use Rattle.image_defs.specs.Places.{IsPort, Stands}
-use Rattle.image_defs.specs.declared.image.Image.{Image}
-use Rattle.image_defs.specs.declared.image.LinkIn.{LinkIn}
-use Rattle.image_defs.specs.declared.image.LinkOut.{LinkOut}
+use Rattle.image_defs.specs.{Places.IsPort, Places.Stands, declared.image.Image.Image, declared.image.LinkIn.LinkIn, declared.image.LinkOut.LinkOut}
 use Rattle.image_defs.specs.declared.image.PortImage.{PortImage}
-use Rattle.event_defs.specs.Next.{EndsNext}
 use Rattle.event_defs.specs.Places.{IsSend, after_put, after_take, is_in, known_of, start}
-use Rattle.event_defs.specs.declared.place.Place.{Place}
+use Rattle.event_defs.specs.{Next.EndsNext, declared.place.Place.Place}
 use Rattle.atomic_table.specs.Seated.{TableId}
-use Rattle.slot_words.specs.declared.feed.Feed.{Ghosts}
-use Rattle.slot_words.specs.declared.rule.Key.{Key}
-use Rattle.slot_words.specs.declared.rule.Look.{Look}
-use Rattle.slot_words.specs.Layout.{send_word}
-use Rattle.slot_words.specs.Rule.{IsRunnable}
+use Rattle.slot_words.specs.{declared.feed.Feed.Ghosts, declared.rule.Key.Key, declared.rule.Look.Look, Layout.send_word, Rule.IsRunnable}
 
 -- a crossbar: which words, the key of their rule, and what they are made for
 pub record WordsView (D : Type 0) : Type 0 where

@@ -5,18 +5,11 @@ use Rattle.std.specs.Prelude.{◌≡◌, ◌≢◌, ℕ, ◌+◌, ◌%◌, ◌<�
 use Rattle.std.specs.List.{sum_by}
 use mathlib.Core.Option.{some}
 use lib.ListN.{get_elem?}
-use Rattle.image_defs.specs.WellFormed.{IsWellFormed}
-use Rattle.image_defs.specs.declared.image.Image.{Image}
-use Rattle.image_defs.specs.declared.image.LinkOut.{LinkOut}
-use Rattle.event_defs.specs.Places.{IsSend, latest, start}
-use Rattle.event_defs.specs.Sound.{ArePaced}
-use Rattle.event_defs.specs.declared.place.Place.{Place}
+use Rattle.image_defs.specs.{WellFormed.IsWellFormed, declared.image.Image.Image, declared.image.LinkOut.LinkOut}
+use Rattle.event_defs.specs.{Places.IsSend, Places.latest, Places.start, Sound.ArePaced, declared.place.Place.Place}
 use Rattle.atomic_table.specs.Table.{State}
-use Rattle.slot_words.specs.declared.feed.Feed.{Ghosts}
-use Rattle.slot_words.specs.declared.rule.Key.{Key}
-use Rattle.slot_words.specs.declared.rule.TheConstants.{UNCLAIMED}
-use Rattle.slot_words.specs.declared.rule.View.{View}
 use Rattle.slot_words.specs.Layout.{progress_in, sent_in, told_in, word_count}
+use Rattle.slot_words.specs.declared.{feed.Feed.Ghosts, rule.Key.Key, rule.TheConstants.UNCLAIMED, rule.View.View}
 
 -- the view of a seat that is no port's
 abbrev pub unseated : {D : Type 0} → Image → D → ℕ → View D

@@ -6,9 +6,8 @@ ghost use Rattle.logic_four.specs.Values.{code_of};
 ghost use Rattle.net_defs.specs.Valid.{IsValidStimulus};
 ghost use Rattle.image_defs.specs.WellFormed.{IsWellFormed};
 ghost use Rattle.event_defs.specs.Places.{after_ask, after_tell, known_of};
-ghost use Rattle.slot_words.specs.Layout.{progress_word};
-ghost use Rattle.slot_words.specs.code.PlainWords.{IsTakenOf};
 ghost use Rattle.slot_words.specs.plain.Passes.{CanPut, CanTake, CanTell, IsMade, IsOf, IsPut, IsRunning, IsTake, one_step};
+ghost use Rattle.slot_words.specs.{Layout.progress_word, code.PlainWords.IsTakenOf};
 
 use crate::feed::Feed;
 use crate::words::Words;

@@ -3,13 +3,11 @@
 ghost use Rattle.std.specs.Prelude.{List, ℕ, Some, slice_set, ◌+◌, ◌≡◌, ◌≤◌};
 ghost use mathlib.Core.Option.{some};
 ghost use lib.ListN.{get_elem?};
-ghost use Rattle.image_defs.specs.Places.{Stands};
-ghost use Rattle.image_defs.specs.declared.image.LinkOut.{LinkOut};
+ghost use Rattle.image_defs.specs.{Places.Stands, declared.image.LinkOut.LinkOut};
 ghost use Rattle.event_defs.specs.Places.{IsSend, known_of};
 ghost use Rattle.atomic_table.specs.Table.{Act, State, stepped};
-ghost use Rattle.slot_words.specs.Layout.{progress_in, told_in, turns_told};
-ghost use Rattle.slot_words.specs.Rule.{AreDistinct, AreLooks};
 ghost use Rattle.slot_words.specs.plain.Sound.{ArePassesSound, Kept, PlainKey, PlainView};
+ghost use Rattle.slot_words.specs.{Layout.progress_in, Layout.told_in, Layout.turns_told, Rule.AreDistinct, Rule.AreLooks};
 
 use crate::crossbar::Plain;
 use crate::rule::{Key, Law, View};

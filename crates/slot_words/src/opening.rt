@@ -2,11 +2,9 @@
 
 ghost use Rattle.std.specs.Prelude.{IfOk, IfSome, length, replicate, ◌++◌, ◌+◌, ◌<◌, ◌^◌, ◌≡◌, ◌≤◌};
 ghost use Rattle.image_defs.specs.WellFormed.{IsWellFormed};
-ghost use Rattle.event_defs.specs.Row.{send_count};
-ghost use Rattle.event_defs.specs.Sources.{AreFirsts};
+ghost use Rattle.event_defs.specs.{Row.send_count, Sources.AreFirsts};
 ghost use Rattle.slot_words.specs.code.Opening.{IsOpened, IsTemplate, IsWinner};
-ghost use Rattle.slot_words.specs.Passes.{AreFirstPasses, IsFirstPass, IsMade};
-ghost use Rattle.slot_words.specs.Rule.{IsRunnable};
+ghost use Rattle.slot_words.specs.{Passes.AreFirstPasses, Passes.IsFirstPass, Passes.IsMade, Rule.IsRunnable};
 
 use crate::feed::Feed;
 use crate::links;

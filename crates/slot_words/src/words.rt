@@ -2,8 +2,8 @@
 
 ghost use Rattle.std.specs.Prelude.{None, Some, if◌then◌else◌, length, ◌%◌, ◌<◌, ◌≡◌, ◌≤◌};
 ghost use Rattle.event_defs.specs.Places.{after_ask, after_tell, known_of};
-ghost use Rattle.slot_words.specs.Layout.{progress_word, turns_told};
 ghost use Rattle.slot_words.specs.Passes.{CanPutIn, CanTake, CanTell, HasPut, HasTaken, IsFit, IsOf, IsRunning, one_step};
+ghost use Rattle.slot_words.specs.Layout.{progress_word, turns_told};
 
 use crate::feed::Feed;
 use crate::pass::Pass;

@@ -1,11 +1,9 @@
 -- A list that is cut at the members that pass a test, and grows at its end.
 use Rattle.std.proofs.Common.{◌≡◌, ◌+◌, ◌-◌, Bool, true, false, cond, List, [], ◌∷◌, ◌++◌, length, drop, inl, inr, sym, ap, ◌∙◌, refl, arith, append-nil, length-append}
-use Rattle.std.specs.Prelude.{count_by, not}
-use Rattle.std.specs.List.{slice_split, onto_first, after_last, suffix_len, prefix_len}
-use Rattle.std.proofs.lemmas.Bool.{cases_Bool}
-use Rattle.std.proofs.lemmas.List.{reverse-append, drop-append-le}
-use Rattle.std.proofs.Math.ListN.{drop_of_length-le}
+use Rattle.std.proofs.{lemmas.Bool.cases_Bool, lemmas.List.reverse-append, lemmas.List.drop-append-le, Math.ListN.drop_of_length-le}
 use Rattle.std.proofs.lemmas.List.Splits.{slice_split-cons_yes, slice_split-cons_no, length-slice_split}
+use Rattle.std.specs.List.{slice_split, onto_first, after_last, suffix_len, prefix_len}
+use Rattle.std.specs.Prelude.{count_by, not}
 
 -- the list falls into these parts and the one since its last cut
 pub record IsCut {X : Type 0} (p : X → Bool) (xs : List X) (front : List (List X)) (since : List X) : Type 0 where

@@ -1,26 +1,20 @@
 -- The lines of a text of lanes pass one after another, and each lane grows at its end.
 use Rattle.std.proofs.Common.{◌≡◌, ℕ, zero, suc, ◌+◌, ◌<◌, ◌≤◌, true, false, List, [], ◌∷◌, ◌++◌, length, take, drop, get_or, map, Option, Some, None, inl, inr, sym, ap, ◌∙◌, subst, refl, arith, add-one, append-nil, length-append}
-use Rattle.std.specs.List.{cons_option, enumerate_from}
-use Rattle.std.proofs.lemmas.Bool.{cond-true, cond-false, cases_Bool}
 use Rattle.std.proofs.lemmas.List.{take_more, take_all, map-append, length-map}
+use Rattle.std.proofs.lemmas.Bool.{cond-true, cond-false, cases_Bool}
+use Rattle.std.specs.List.{cons_option, enumerate_from}
 use Rattle.limits.specs.declared.TheConstants.{MAX_CYCLES}
 use Rattle.text_lines.specs.Answers.{first}
 use Rattle.text_lines.proofs.lemmas.AnswerLemmas.{first-zero, first_none_more, first_some}
 use Rattle.text_lines.proofs.lemmas.LineLemmas.{IsNextLine, next_line, no_next_line}
-use Rattle.net_defs.specs.declared.stimulus.StimRow.{StimRow}
-use Rattle.net_defs.specs.declared.stimulus.Stimulus.{Stimulus}
-use Rattle.stim_text.specs.declared.lane_line.LaneLine.{LaneLine}
-use Rattle.stim_text.specs.declared.lane_line.LaneLine.TheVariants.{Begins, Blank, Row}
-use Rattle.stim_text.specs.declared.refusal.LaneNo.{LaneNo}
-use Rattle.stim_text.specs.declared.refusal.LaneNo.TheVariants.{NoLane}
-use Rattle.stim_text.specs.Repeats.{is_blank_part}
-use Rattle.stim_text.specs.Rows.{row_of}
-use Rattle.stim_text.specs.Stimuli.{rows_of, cycles_of}
+use Rattle.net_defs.specs.declared.stimulus.{StimRow.StimRow, Stimulus.Stimulus}
 use Rattle.stim_text.specs.LaneTexts.{begins_lane, lane_lines, stimulus_of, lane_fault, lane_fault_at}
-use Rattle.stim_text.specs.code.LaneTexts.{lane_line_of, row_line}
+use Rattle.stim_text.specs.declared.lane_line.LaneLine.{LaneLine, TheVariants.Begins, TheVariants.Blank, TheVariants.Row}
+use Rattle.stim_text.specs.{declared.refusal.LaneNo.LaneNo, declared.refusal.LaneNo.TheVariants.NoLane, Repeats.is_blank_part, Rows.row_of}
+use Rattle.stim_text.specs.{Stimuli.rows_of, Stimuli.cycles_of, code.LaneTexts.lane_line_of, code.LaneTexts.row_line}
 use Rattle.stim_text.proofs.CutLemmas.{IsCut, cut_none, cut_yes, cut_no}
-use Rattle.stim_text.proofs.RowLemmas.{row_of-blank}
 use Rattle.stim_text.proofs.LaneTextLemmas.{asked, rows_more, cycles_append, none_if, fault_outside, lanes_cut}
+use Rattle.stim_text.proofs.RowLemmas.{row_of-blank}
 
 -- ---- what a line is
 

@@ -1,35 +1,23 @@
 -- A text reads as lanes exactly where it has no fault.
 use Rattle.std.proofs.Common.{◌≡◌, ◌⊎◌, ℕ, zero, suc, ◌+◌, ◌<◌, ◌≤◌, Bool, true, false, cond, ltb, List, [], ◌∷◌, ◌++◌, length, take, drop, get_or, map, Option, Some, None, inl, inr, sym, ap, ◌∙◌, subst, refl, arith, add-one, length-append}
-use Rattle.std.specs.Prelude.{All, slice_get}
-use Rattle.std.specs.List.{slice_split, onto_first, cons_option}
-use Rattle.std.specs.Option.{option_map}
 use Rattle.std.proofs.lemmas.Bool.{cond-true, cond-false, cases_Bool, ne_eqb, ltb-true, lt-ltb}
 use Rattle.std.proofs.lemmas.List.{take_more, take_all, take-append-drop, length-map, length-drop}
 use Rattle.std.proofs.lemmas.List.Elements.{filter_map-append, All-nil, All-cons, All-head, All-tail, All-append}
-use Rattle.std.proofs.lemmas.List.Sums.{sum_by-append, sum_by-cons}
-use Rattle.std.proofs.lemmas.Option.{slice_get-get_or}
+use Rattle.std.proofs.lemmas.{List.Sums.sum_by-append, List.Sums.sum_by-cons, Option.slice_get-get_or}
 use Rattle.std.proofs.lemmas.List.Splits.{slice_split-cons_no, length-slice_split}
-use Rattle.list_laws.proofs.Members.{all_back}
-use Rattle.list_laws.proofs.Places.{drop_here}
+use Rattle.std.specs.{Prelude.All, Prelude.slice_get, List.slice_split, List.onto_first, List.cons_option, Option.option_map}
+use Rattle.list_laws.proofs.{Members.all_back, Places.drop_here}
 use Rattle.limits.specs.declared.TheConstants.{LANES, MAX_CYCLES}
-use Rattle.text_lines.specs.Answers.{first}
-use Rattle.text_lines.specs.Lines.{parts_of}
+use Rattle.text_lines.specs.{Answers.first, Lines.parts_of}
 use Rattle.text_lines.proofs.lemmas.AnswerLemmas.{first_none, none_below}
-use Rattle.net_defs.specs.declared.stimulus.StimRow.{StimRow}
-use Rattle.net_defs.specs.declared.stimulus.Stimulus.{Stimulus}
-use Rattle.net_defs.specs.Valid.{IsValidStimulus}
-use Rattle.stim_text.specs.declared.lanes.Lanes.{Lanes}
-use Rattle.stim_text.specs.declared.refusal.LaneNo.{LaneNo}
-use Rattle.stim_text.specs.declared.refusal.LaneNo.TheVariants.{NoLane, TooMany, Stim}
-use Rattle.stim_text.specs.declared.refusal.StimNo.{StimNo}
-use Rattle.stim_text.specs.Repeats.{is_blank_part}
-use Rattle.stim_text.specs.Rows.{IsAllowed, row_of, fault_of}
-use Rattle.stim_text.specs.Stimuli.{LinesRead, rows_of, cycles_of}
-use Rattle.stim_text.specs.Lanes.{AreLanes}
+use Rattle.net_defs.specs.{declared.stimulus.StimRow.StimRow, declared.stimulus.Stimulus.Stimulus, Valid.IsValidStimulus}
 use Rattle.stim_text.specs.LaneTexts.{begins_lane, lane_count, lines_before, lane_lines, stimulus_of, ReadsAsLanes, lane_fault, lane_fault_at, first_lanes_fault}
+use Rattle.stim_text.specs.declared.{lanes.Lanes.Lanes, refusal.LaneNo.LaneNo}
+use Rattle.stim_text.specs.declared.refusal.{LaneNo.TheVariants.NoLane, LaneNo.TheVariants.TooMany, LaneNo.TheVariants.Stim, StimNo.StimNo}
+use Rattle.stim_text.specs.{Repeats.is_blank_part, Rows.IsAllowed, Rows.row_of, Rows.fault_of, Stimuli.LinesRead, Stimuli.rows_of, Stimuli.cycles_of}
+use Rattle.stim_text.specs.Lanes.{AreLanes}
 use Rattle.stim_text.proofs.CutLemmas.{some_parts, IsCut, cut_none, cut_yes, cut_no, cut_count, parts_append}
-use Rattle.stim_text.proofs.LawLemmas.{valid_from_lines}
-use Rattle.stim_text.proofs.ReadingLemmas.{value_or_fault}
+use Rattle.stim_text.proofs.{LawLemmas.valid_from_lines, ReadingLemmas.value_or_fault}
 use Rattle.stim_text.proofs.RowLemmas.{allowed_from_none, none_from_allowed, fits_from_none}
 
 -- ---- one line

@@ -1,18 +1,13 @@
 -- A text reads as a stimulus exactly where it has no fault.
 use Rattle.std.proofs.Common.{◌≡◌, ◌⊎◌, ℕ, ◌≤◌, List, Some, None, sym, ap, ◌∙◌, subst, refl, arith, replicate}
+use Rattle.std.proofs.lemmas.List.{length-replicate, Concat.length-flat_map}
 use Rattle.std.specs.Prelude.{slice_get, All}
-use Rattle.std.proofs.lemmas.List.{length-replicate}
-use Rattle.std.proofs.lemmas.List.Concat.{length-flat_map}
 use Rattle.list_laws.proofs.Members.{each}
 use Rattle.limits.specs.declared.TheConstants.{MAX_CYCLES}
 use Rattle.text_lines.specs.Lines.{parts_of}
-use Rattle.net_defs.specs.declared.stimulus.StimRow.{StimRow}
-use Rattle.net_defs.specs.declared.stimulus.Stimulus.{Stimulus}
-use Rattle.net_defs.specs.Time.{cycle_count}
-use Rattle.net_defs.specs.Valid.{IsValidStimulus}
-use Rattle.stim_text.specs.declared.refusal.StimNo.{StimNo}
-use Rattle.stim_text.specs.Rows.{IsAllowed, row_of, fault_of}
+use Rattle.net_defs.specs.{declared.stimulus.StimRow.StimRow, declared.stimulus.Stimulus.Stimulus, Time.cycle_count, Valid.IsValidStimulus}
 use Rattle.stim_text.specs.Stimuli.{LinesRead, Reads, rows_of, cycles_of, first_fault}
+use Rattle.stim_text.specs.{declared.refusal.StimNo.StimNo, Rows.IsAllowed, Rows.row_of, Rows.fault_of}
 use Rattle.stim_text.proofs.ReadingLemmas.{all_from_none, none_from_all, few_from_none, items_hold, value_or_fault}
 use Rattle.stim_text.proofs.RowLemmas.{IsGood, allowed_from_none, none_from_allowed, good_from_allowed, fits_from_none}
 

@@ -1,18 +1,15 @@
 -- A text reads as an order exactly where it has no fault.
 use Rattle.std.proofs.Common.{◌≡◌, ◌⊎◌, ℕ, ◌+◌, ◌<◌, ◌≤◌, Bool, true, false, cond, ltb, List, length, Option, Some, None, inl, inr, sym, ap, ◌∙◌, subst, refl, arith, replicate}
-use Rattle.std.specs.Prelude.{slice_get, All}
 use Rattle.std.proofs.lemmas.Bool.{cond-true, cond-false, cases_Bool, ltb-true, leb-true, lt-ltb, le-leb}
-use Rattle.std.proofs.lemmas.List.{length-replicate}
-use Rattle.std.proofs.lemmas.List.Concat.{length-flat_map}
+use Rattle.std.proofs.lemmas.List.{length-replicate, Concat.length-flat_map}
+use Rattle.std.specs.Prelude.{slice_get, All}
 use Rattle.list_laws.proofs.Members.{each}
 use Rattle.text_lines.specs.Lines.{parts_of}
-use Rattle.stim_text.specs.declared.order.Order.{Order}
-use Rattle.stim_text.specs.declared.order.OrderLine.{OrderLine}
-use Rattle.limits.specs.declared.TheConstants.{MAX_STEPS, MAX_REPEAT}
-use Rattle.stim_text.specs.declared.refusal.OrderNo.{OrderNo}
 use Rattle.stim_text.specs.Repeats.{is_blank_part, number_in, before_repeat, repeat_of}
 use Rattle.stim_text.specs.OrderLines.{IsLine, IsAllowed, line_with, form_of, line_of, fits_after, form_fault, fault_of}
 use Rattle.stim_text.specs.Orders.{Reads, IsValidOrder, lines_of, step_count, steps_of, first_fault}
+use Rattle.stim_text.specs.declared.{order.Order.Order, order.OrderLine.OrderLine, refusal.OrderNo.OrderNo}
+use Rattle.limits.specs.declared.TheConstants.{MAX_STEPS, MAX_REPEAT}
 use Rattle.stim_text.proofs.ReadingLemmas.{all_from_none, none_from_all, few_from_none, items_hold, value_or_fault}
 use Rattle.stim_text.proofs.RepeatLemmas.{repeat_range}
 

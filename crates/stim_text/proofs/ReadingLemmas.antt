@@ -1,16 +1,13 @@
 -- Texts whose lines are blank or items that stand for so many cycles or steps: one line after another,
 -- and the first fault.
 use Rattle.std.proofs.Common.{◌≡◌, ◌⊎◌, ℕ, zero, suc, ◌+◌, ◌<◌, ◌≤◌, List, [], ◌∷◌, ◌++◌, length, take, drop, get_or, Option, Some, None, inl, inr, sym, ap, ◌∙◌, subst, refl, arith, append-nil, add-one}
-use Rattle.std.specs.Prelude.{All, IfSome}
-use Rattle.std.specs.List.{filter_map, cons_option, enumerate_from, sum_by}
-use Rattle.std.proofs.lemmas.List.{take_more, take_all, take-append-drop}
 use Rattle.std.proofs.lemmas.List.Elements.{filter_map-append, All-from_get_or, All-nil, All-cons, All-head, All-tail}
-use Rattle.std.proofs.lemmas.List.Sums.{sum_by-append}
-use Rattle.text_lines.specs.Answers.{first}
+use Rattle.std.proofs.lemmas.List.{take_more, take_all, take-append-drop, Sums.sum_by-append}
+use Rattle.std.specs.List.{filter_map, cons_option, enumerate_from, sum_by}
+use Rattle.std.specs.Prelude.{All, IfSome}
+use Rattle.text_lines.specs.{Answers.first, Lines.parts_of}
 use Rattle.text_lines.proofs.lemmas.AnswerLemmas.{first-zero, first_none, first_none_more, first_some, none_below}
-use Rattle.text_lines.specs.Lines.{parts_of}
-use Rattle.text_lines.proofs.lemmas.LineLemmas.{IsNextLine, next_line, no_next_line}
-use Rattle.text_lines.proofs.lemmas.PartLemmas.{part_length}
+use Rattle.text_lines.proofs.lemmas.{LineLemmas.IsNextLine, LineLemmas.next_line, LineLemmas.no_next_line, PartLemmas.part_length}
 use Rattle.stim_text.specs.Repeats.{fault_at, first_fault_of}
 
 -- ---- one line more

@@ -1,9 +1,8 @@
 -- The repeat of a line is in its range.
 use Rattle.std.proofs.Common.{◌≡◌, ℕ, ◌≤◌, Bool, true, false, cond, leb, List, Option, Some, None, refl, arith}
-use Rattle.std.specs.Prelude.{◌&&◌}
 use Rattle.std.proofs.lemmas.Bool.{and_parts, leb-true}
-use Rattle.text_lines.specs.Bytes.{cut_at}
-use Rattle.text_lines.specs.Numbers.{within}
+use Rattle.std.specs.Prelude.{◌&&◌}
+use Rattle.text_lines.specs.{Bytes.cut_at, Numbers.within}
 use Rattle.limits.specs.declared.TheConstants.{MAX_REPEAT}
 use Rattle.stim_text.specs.Repeats.{number_in, repeat_of, after_star}
 

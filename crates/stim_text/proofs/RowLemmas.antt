@@ -1,18 +1,15 @@
 -- One line: where it has no fault it is allowed, and the row that it is.
 use Rattle.std.proofs.Common.{◌≡◌, ℕ, ◌+◌, ◌<◌, ◌≤◌, Bool, true, false, cond, eqb, List, [], ◌∷◌, length, Option, Some, None, inl, inr, sym, ap, ◌∙◌, subst, refl, arith}
-use Rattle.std.specs.Prelude.{◌⊎◌, ◌||◌, is_some, count_by}
-use Rattle.std.specs.List.{list_all, filter_map, cons_option}
-use Rattle.std.specs.Option.{option_map}
 use Rattle.std.proofs.lemmas.Bool.{cond-true, cond-false, and_parts, or_cases, cases_Bool, cases_eq, eqb-true, leb-true, eq-eqb, le-leb, ne_eqb}
 use Rattle.std.proofs.lemmas.List.Sums.{sum_by-cons}
+use Rattle.std.specs.Prelude.{◌⊎◌, ◌||◌, is_some, count_by}
+use Rattle.std.specs.{List.list_all, List.filter_map, List.cons_option, Option.option_map}
 use Rattle.limits.specs.declared.TheConstants.{MAX_CYCLES}
-use Rattle.logic_four.specs.declared.V4.{V4}
-use Rattle.logic_four.specs.Values.{char_value}
+use Rattle.logic_four.specs.{declared.V4.V4, Values.char_value}
 use Rattle.net_defs.specs.declared.stimulus.StimRow.{StimRow}
 use Rattle.text_lines.specs.Bytes.{is_blank}
-use Rattle.stim_text.specs.declared.refusal.StimNo.{StimNo}
-use Rattle.stim_text.specs.Repeats.{is_blank_part, before_repeat, repeat_of}
 use Rattle.stim_text.specs.Rows.{IsRow, IsAllowed, may_stand, is_value_byte, width_of, wanted, fits_after, row_of, row_fault, fault_of}
+use Rattle.stim_text.specs.{declared.refusal.StimNo.StimNo, Repeats.is_blank_part, Repeats.before_repeat, Repeats.repeat_of}
 use Rattle.stim_text.proofs.RepeatLemmas.{repeat_range}
 
 -- ---- no fault, and allowed

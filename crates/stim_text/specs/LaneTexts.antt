@@ -1,18 +1,12 @@
 -- Which lanes a text reads as, and its first fault.
 use Rattle.std.specs.Prelude.{◌≡◌, ℕ, ◌+◌, ◌≤◌, ◌==◌, Bool, false, List, [], length, take, drop, map, codes, bytes_eq, slice_index_or, Option, Some, None, if◌then◌else◌, nat_lt, All, IsTrue, count_by}
-use Rattle.std.specs.List.{slice_split, after_last}
-use Rattle.std.specs.Option.{option_map}
+use Rattle.std.specs.{List.slice_split, List.after_last, Option.option_map}
 use Rattle.limits.specs.declared.TheConstants.{LANES}
-use Rattle.text_lines.specs.Answers.{first}
-use Rattle.text_lines.specs.Lines.{parts_of}
-use Rattle.text_lines.specs.Words.{words_of}
+use Rattle.text_lines.specs.{Answers.first, Lines.parts_of, Words.words_of}
 use Rattle.net_defs.specs.declared.stimulus.Stimulus.{Stimulus}
-use Rattle.stim_text.specs.declared.lanes.Lanes.{Lanes}
-use Rattle.stim_text.specs.declared.refusal.LaneNo.{LaneNo}
+use Rattle.stim_text.specs.declared.{lanes.Lanes.Lanes, refusal.LaneNo.LaneNo}
 use Rattle.stim_text.specs.declared.refusal.LaneNo.TheVariants.{NoLane, TooMany, Stim}
-use Rattle.stim_text.specs.Repeats.{is_blank_part, only_word}
-use Rattle.stim_text.specs.Rows.{fault_of}
-use Rattle.stim_text.specs.Stimuli.{LinesRead, rows_of, cycles_of}
+use Rattle.stim_text.specs.{Repeats.is_blank_part, Repeats.only_word, Rows.fault_of, Stimuli.LinesRead, Stimuli.rows_of, Stimuli.cycles_of}
 
 -- ---- the lines of lanes
 

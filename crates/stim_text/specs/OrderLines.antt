@@ -1,10 +1,9 @@
 -- A line of an order text, outside its comment: it is blank, or it stands for steps of a port.
 use Rattle.std.specs.Prelude.{◌≡◌, ℕ, ◌+◌, ◌<◌, ◌⊎◌, List, Option, Some, None, nat_lt, nat_le, if◌then◌else◌, Bool, IsTrue}
-use Rattle.stim_text.specs.declared.order.OrderLine.{OrderLine}
-use Rattle.limits.specs.declared.TheConstants.{MAX_STEPS}
-use Rattle.stim_text.specs.declared.refusal.OrderNo.{OrderNo}
-use Rattle.stim_text.specs.declared.refusal.OrderNo.TheVariants.{Syntax, Port, TooLong}
 use Rattle.stim_text.specs.Repeats.{is_blank_part, number_in, before_repeat, repeat_of}
+use Rattle.stim_text.specs.declared.{order.OrderLine.OrderLine, refusal.OrderNo.OrderNo}
+use Rattle.stim_text.specs.declared.refusal.OrderNo.TheVariants.{Syntax, Port, TooLong}
+use Rattle.limits.specs.declared.TheConstants.{MAX_STEPS}
 
 -- ---- the line of an order that a line of its text is
 

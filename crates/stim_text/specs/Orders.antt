@@ -2,12 +2,9 @@
 use Rattle.std.specs.Prelude.{◌≡◌, ℕ, ◌<◌, ◌≤◌, List, length, replicate, slice_get, Option, Some, All}
 use Rattle.std.specs.List.{flat_map, filter_map, sum_by}
 use Rattle.text_lines.specs.Lines.{parts_of}
-use Rattle.stim_text.specs.declared.order.Order.{Order}
-use Rattle.stim_text.specs.declared.order.OrderLine.{OrderLine}
-use Rattle.limits.specs.declared.TheConstants.{MAX_STEPS, MAX_REPEAT}
-use Rattle.stim_text.specs.declared.refusal.OrderNo.{OrderNo}
-use Rattle.stim_text.specs.Repeats.{first_fault_of}
+use Rattle.stim_text.specs.{declared.order.Order.Order, declared.order.OrderLine.OrderLine, declared.refusal.OrderNo.OrderNo, Repeats.first_fault_of}
 use Rattle.stim_text.specs.OrderLines.{IsAllowed, line_of, fault_of}
+use Rattle.limits.specs.declared.TheConstants.{MAX_STEPS, MAX_REPEAT}
 
 -- the lines of an order among the lines of its text
 abbrev pub lines_of : List (List ℕ) → List OrderLine

@@ -1,12 +1,8 @@
 -- The part of a line outside its comment, and the repeat that it may end with: `*` and a number. Rows
 -- of stimuli and lines of orders end alike.
 use Rattle.std.specs.Prelude.{ℕ, ◌+◌, Bool, List, [], ◌∷◌, take, slice_index_or, length, Option, Some, None}
-use Rattle.std.specs.List.{list_all, filter_map, sum_by}
-use Rattle.std.specs.Option.{option_and_then}
-use Rattle.text_lines.specs.Answers.{first}
-use Rattle.text_lines.specs.Bytes.{is_blank, cut_at}
-use Rattle.text_lines.specs.Words.{words_of}
-use Rattle.text_lines.specs.Numbers.{number_of, within}
+use Rattle.std.specs.{List.list_all, List.filter_map, List.sum_by, Option.option_and_then}
+use Rattle.text_lines.specs.{Answers.first, Bytes.is_blank, Bytes.cut_at, Words.words_of, Numbers.number_of, Numbers.within}
 use Rattle.limits.specs.declared.TheConstants.{MAX_REPEAT}
 
 -- whether the part of a line has blanks alone

@@ -1,14 +1,12 @@
 -- A line of a stimulus text, outside its comment: it is blank, or it is a row.
 use Rattle.std.specs.Prelude.{◌≡◌, ℕ, ◌+◌, ◌==◌, ◌||◌, ◌⊎◌, max, Bool, List, Option, Some, None, is_some, nat_le, if◌then◌else◌, IsTrue, IsSome, count_by}
-use Rattle.std.specs.List.{list_all, filter_map}
-use Rattle.std.specs.Option.{option_map}
+use Rattle.std.specs.{List.list_all, List.filter_map, Option.option_map}
 use Rattle.limits.specs.declared.TheConstants.{MAX_CYCLES}
 use Rattle.text_lines.specs.Bytes.{is_blank}
 use Rattle.logic_four.specs.Values.{char_value}
 use Rattle.net_defs.specs.declared.stimulus.StimRow.{StimRow}
-use Rattle.stim_text.specs.declared.refusal.StimNo.{StimNo}
 use Rattle.stim_text.specs.declared.refusal.StimNo.TheVariants.{BadChar, Width, Repeat, TooManyCycles}
-use Rattle.stim_text.specs.Repeats.{is_blank_part, before_repeat, repeat_of}
+use Rattle.stim_text.specs.{declared.refusal.StimNo.StimNo, Repeats.is_blank_part, Repeats.before_repeat, Repeats.repeat_of}
 
 -- ---- the values
 

@@ -3,11 +3,8 @@ use Rattle.std.specs.Prelude.{◌≡◌, ℕ, ◌≤◌, List, Option, All}
 use Rattle.std.specs.List.{sum_by, filter_map}
 use Rattle.limits.specs.declared.TheConstants.{MAX_CYCLES}
 use Rattle.text_lines.specs.Lines.{parts_of}
-use Rattle.net_defs.specs.declared.stimulus.StimRow.{StimRow}
-use Rattle.net_defs.specs.declared.stimulus.Stimulus.{Stimulus}
-use Rattle.stim_text.specs.declared.refusal.StimNo.{StimNo}
-use Rattle.stim_text.specs.Repeats.{first_fault_of}
-use Rattle.stim_text.specs.Rows.{IsAllowed, row_of, fault_of}
+use Rattle.net_defs.specs.declared.stimulus.{StimRow.StimRow, Stimulus.Stimulus}
+use Rattle.stim_text.specs.{declared.refusal.StimNo.StimNo, Repeats.first_fault_of, Rows.IsAllowed, Rows.row_of, Rows.fault_of}
 
 -- the rows among lines, in order
 abbrev pub rows_of : List (List ℕ) → List StimRow

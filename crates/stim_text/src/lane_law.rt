@@ -2,14 +2,10 @@
 //! nothing: their clauses are the laws.
 
 ghost use Rattle.std.specs.Prelude.{◌≡◌, ◌⊎◌, ◌*◌, List as Items, ℕ, Some, None};
-ghost use Rattle.net_defs.specs.declared.timing.Timing.{Timing};
-ghost use Rattle.net_defs.specs.Time.{cycle_count, turn_count, input_at};
-ghost use Rattle.net_defs.specs.Valid.{IsValidStimulus};
+ghost use Rattle.net_defs.specs.{declared.timing.Timing.Timing, Time.cycle_count, Time.turn_count, Time.input_at, Valid.IsValidStimulus};
 ghost use Rattle.text_lines.specs.Answers.{IsReader};
-ghost use Rattle.stim_text.specs.declared.lanes.Lanes.{Lanes};
-ghost use Rattle.stim_text.specs.declared.refusal.LaneNo.{LaneNo};
 ghost use Rattle.stim_text.specs.Lanes.{AreLanes, longest, lane_stimulus, own_stimulus};
-ghost use Rattle.stim_text.specs.LaneTexts.{ReadsAsLanes, first_lanes_fault};
+ghost use Rattle.stim_text.specs.{declared.lanes.Lanes.Lanes, declared.refusal.LaneNo.LaneNo, LaneTexts.ReadsAsLanes, LaneTexts.first_lanes_fault};
 
 /// Each text reads as lanes in one way at most for so many inputs, and has no fault beside that.
 pub fn reads_as_one()

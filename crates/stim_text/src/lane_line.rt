@@ -2,15 +2,12 @@
 
 ghost use Rattle.std.specs.Prelude.{◌≡◌, ◌≢◌, ◌⊎◌, ◌+◌, ◌≤◌, ◌<◌, ◌^◌, Some, None, length, nat_lt, if◌then◌else◌, IfOk, IfErr};
 ghost use Rattle.std.specs.Option.{option_map};
-ghost use Rattle.text_lines.specs.Answers.{Answers};
-ghost use Rattle.text_lines.specs.code.Answers.{fault_or};
+ghost use Rattle.text_lines.specs.{Answers.Answers, code.Answers.fault_or};
 ghost use Rattle.stim_text.specs.declared.lane_line.LaneLine.TheVariants as lane_line;
 ghost use Rattle.stim_text.specs.declared.refusal.LaneNo.TheVariants.{NoLane, TooMany, Stim, Memory as NoMemory};
-ghost use Rattle.stim_text.specs.declared.refusal.StimNo.TheVariants as stim_no;
-ghost use Rattle.stim_text.specs.Repeats.{is_blank_part};
-ghost use Rattle.stim_text.specs.Rows.{row_of, fault_of};
-ghost use Rattle.stim_text.specs.LaneTexts.{begins_lane, lane_fault};
+ghost use Rattle.stim_text.specs.{Repeats.is_blank_part, Rows.row_of, Rows.fault_of, LaneTexts.begins_lane, LaneTexts.lane_fault};
 ghost use Rattle.stim_text.specs.code.LaneTexts.{lane_line_of, row_line, times_in};
+ghost use Rattle.stim_text.specs.declared.refusal.StimNo.TheVariants as stim_no;
 
 use crate::refusal::{LaneNo, StimNo};
 use crate::repeat::{is_blank_part, only_word};

@@ -2,14 +2,12 @@
 
 ghost use Rattle.std.specs.Prelude.{◌≡◌, ◌≢◌, ◌≤◌, ◌<◌, List as Items, [], ◌∷◌, ◌++◌, None, MatchResult, IfOk, IfErr, OnOk, length, map};
 ghost use Rattle.limits.specs.declared.TheConstants.{MAX_TEXT_BYTES};
-ghost use Rattle.text_lines.specs.Answers.{Answers};
-ghost use Rattle.text_lines.specs.Lines.{parts_of};
+ghost use Rattle.text_lines.specs.{Answers.Answers, Lines.parts_of};
 ghost use Rattle.net_defs.specs.declared.stimulus.Stimulus.{Stimulus};
-ghost use Rattle.stim_text.specs.declared.lanes.Lanes.{Lanes};
-ghost use Rattle.stim_text.specs.declared.refusal.LaneNo.TheVariants.{Memory as NoMemory, Stim};
-ghost use Rattle.stim_text.specs.declared.refusal.StimNo.TheVariants as stim_no;
-ghost use Rattle.stim_text.specs.Lanes.{AreLanes};
 ghost use Rattle.stim_text.specs.LaneTexts.{ReadsAsLanes, first_lanes_fault, lane_lines, stimulus_of};
+ghost use Rattle.stim_text.specs.declared.{lanes.Lanes.Lanes, refusal.LaneNo.TheVariants.Memory as NoMemory, refusal.LaneNo.TheVariants.Stim};
+ghost use Rattle.stim_text.specs.Lanes.{AreLanes};
+ghost use Rattle.stim_text.specs.declared.refusal.StimNo.TheVariants as stim_no;
 
 use crate::lane_line::{LaneLine, read_line};
 use crate::lanes::Lanes;

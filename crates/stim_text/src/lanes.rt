@@ -1,8 +1,7 @@
 //! Lanes: stimuli that run at once.
 
 ghost use Rattle.std.specs.Prelude.{◌≡◌, ℕ, Some, slice_get};
-ghost use Rattle.net_defs.specs.declared.stimulus.Stimulus.{Stimulus};
-ghost use Rattle.net_defs.specs.Valid.{IsValidStimulus};
+ghost use Rattle.net_defs.specs.{declared.stimulus.Stimulus.Stimulus, Valid.IsValidStimulus};
 ghost use Rattle.stim_text.specs.Lanes.{longest};
 
 use net_defs::Stimulus;

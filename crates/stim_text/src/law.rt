@@ -2,11 +2,9 @@
 //! laws.
 
 ghost use Rattle.std.specs.Prelude.{◌≡◌, ◌⊎◌, List as Items, ℕ, Some, None};
-ghost use Rattle.net_defs.specs.declared.stimulus.Stimulus.{Stimulus};
-ghost use Rattle.net_defs.specs.Valid.{IsValidStimulus};
+ghost use Rattle.net_defs.specs.{declared.stimulus.Stimulus.Stimulus, Valid.IsValidStimulus};
 ghost use Rattle.text_lines.specs.Answers.{IsReader};
-ghost use Rattle.stim_text.specs.declared.refusal.StimNo.{StimNo};
-ghost use Rattle.stim_text.specs.Stimuli.{Reads, first_fault};
+ghost use Rattle.stim_text.specs.{declared.refusal.StimNo.StimNo, Stimuli.Reads, Stimuli.first_fault};
 
 /// Each text reads as one stimulus at most for so many inputs, and has no fault beside it.
 pub fn reads_as_one()

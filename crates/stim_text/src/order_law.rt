@@ -3,9 +3,8 @@
 
 ghost use Rattle.std.specs.Prelude.{◌≡◌, ◌⊎◌, List as Items, ℕ, Some, None, length};
 ghost use Rattle.text_lines.specs.Answers.{IsReader};
-ghost use Rattle.stim_text.specs.declared.order.Order.{Order};
-ghost use Rattle.stim_text.specs.declared.refusal.OrderNo.{OrderNo};
 ghost use Rattle.stim_text.specs.Orders.{Reads, IsValidOrder, first_fault, steps_of, step_count};
+ghost use Rattle.stim_text.specs.declared.{order.Order.Order, refusal.OrderNo.OrderNo};
 
 /// Each text reads as one order at most for so many ports, and has no fault beside it.
 pub fn reads_as_one()

@@ -2,11 +2,9 @@
 
 ghost use Rattle.std.specs.Prelude.{◌≡◌, ◌+◌, ◌≤◌, None, MatchResult, IfOk, length};
 ghost use Rattle.limits.specs.declared.TheConstants.{MAX_TEXT_BYTES, MAX_STEPS};
-ghost use Rattle.text_lines.specs.Answers.{Answers};
-ghost use Rattle.text_lines.specs.Lines.{parts_of};
-ghost use Rattle.stim_text.specs.declared.order.Order.{Order};
-ghost use Rattle.stim_text.specs.declared.refusal.OrderNo.TheVariants.{Memory as NoMemory};
+ghost use Rattle.text_lines.specs.{Answers.Answers, Lines.parts_of};
 ghost use Rattle.stim_text.specs.Orders.{Reads, IsValidOrder, first_fault, lines_of, step_count};
+ghost use Rattle.stim_text.specs.declared.{order.Order.Order, refusal.OrderNo.TheVariants.Memory as NoMemory};
 
 use crate::order::{Order, OrderLine};
 use crate::order_line::read_line;

@@ -2,12 +2,10 @@
 
 ghost use Rattle.std.specs.Prelude.{◌≡◌, ◌+◌, ◌≤◌, None, MatchResult, IfOk, length};
 ghost use Rattle.limits.specs.declared.TheConstants.{MAX_CYCLES, MAX_TEXT_BYTES};
-ghost use Rattle.text_lines.specs.Answers.{Answers};
-ghost use Rattle.net_defs.specs.declared.stimulus.Stimulus.{Stimulus};
-ghost use Rattle.net_defs.specs.Valid.{IsValidStimulus};
-ghost use Rattle.stim_text.specs.declared.refusal.StimNo.TheVariants.{Memory as NoMemory};
-ghost use Rattle.text_lines.specs.Lines.{parts_of};
+ghost use Rattle.text_lines.specs.{Answers.Answers, Lines.parts_of};
+ghost use Rattle.net_defs.specs.{declared.stimulus.Stimulus.Stimulus, Valid.IsValidStimulus};
 ghost use Rattle.stim_text.specs.Stimuli.{Reads, first_fault, rows_of, cycles_of};
+ghost use Rattle.stim_text.specs.declared.refusal.StimNo.TheVariants.{Memory as NoMemory};
 
 use crate::refusal::StimNo;
 use crate::row::read_row;

@@ -4,8 +4,8 @@ ghost use Rattle.std.specs.Prelude.{◌≡◌, ◌+◌, ◌≤◌, ◌<◌, ◌^
 ghost use Rattle.std.specs.List.{list_all, filter_map};
 ghost use Rattle.text_lines.specs.Answers.{Answers};
 ghost use Rattle.logic_four.specs.Values.{char_value};
-ghost use Rattle.stim_text.specs.declared.refusal.StimNo.TheVariants.{Memory as NoMemory};
 ghost use Rattle.stim_text.specs.Rows.{is_value_byte, may_stand, width_of, row_of, row_fault, fault_of};
+ghost use Rattle.stim_text.specs.declared.refusal.StimNo.TheVariants.{Memory as NoMemory};
 
 use crate::refusal::StimNo;
 use crate::repeat::{cut_repeat, is_blank_part};

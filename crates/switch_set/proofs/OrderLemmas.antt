@@ -1,16 +1,12 @@
 -- Items that are sorted by their slots.
 use Rattle.std.proofs.Common.{◌≡◌, ◌≢◌, ℕ, ◌<◌, eqb, List, [], ◌∷◌, length, map, get_or, refl, sym, ap, subst, arith}
+use Rattle.std.proofs.lemmas.{Bool.Decides.Decides-eqb, Bool.Decides.nat_tests, List.Elements.All-map, List.Elements.All-from_get_or}
+use Rattle.std.proofs.lemmas.List.FromFn.{length-range_with_len, get_or-range_with_len}
+use Rattle.std.proofs.lemmas.{List.Sorted.IsPermutation-map, List.Sorted.All-permutation, List.Sorted.Contains-permutation, Map.Keys.IsDistinct-IsPermutation}
+use Rattle.std.proofs.lemmas.Map.Made.{IsDistinct-from_AllPairs, AllPairs-from_IsDistinct}
 use Rattle.std.specs.List.{All, AllPairs, Contains, range_with_len}
 use Rattle.std.specs.List.Sorted.{IsNonDecreasingBy, IsPermutation}
-use Rattle.std.proofs.lemmas.Bool.Decides.{Decides-eqb, nat_tests}
-use Rattle.std.proofs.lemmas.List.Elements.{All-map, All-from_get_or}
-use Rattle.std.proofs.lemmas.List.FromFn.{length-range_with_len, get_or-range_with_len}
-use Rattle.std.proofs.lemmas.List.Sorted.{IsPermutation-map, All-permutation, Contains-permutation}
-use Rattle.std.proofs.lemmas.Map.Keys.{IsDistinct-IsPermutation}
-use Rattle.std.proofs.lemmas.Map.Made.{IsDistinct-from_AllPairs, AllPairs-from_IsDistinct}
-use Rattle.switch_set.specs.declared.order.Placed.{Placed}
-use Rattle.switch_set.specs.Order.{IsPlaced, items_of, IsSlotOrder}
-use Rattle.switch_set.specs.code.Order.{placed_at}
+use Rattle.switch_set.specs.{declared.order.Placed.Placed, Order.IsPlaced, Order.items_of, Order.IsSlotOrder, code.Order.placed_at}
 
 -- the numbers of items in item order
 items_same : (slots numbers : List ℕ) → items_of (map (placed_at slots) numbers) ≡ numbers

@@ -1,28 +1,17 @@
 -- One more item is linked, and the settings once all are.
 use Rattle.std.proofs.Common.{◌≡◌, ◌≢◌, ◌∙◌, ◌⊎◌, inl, inr, ℕ, ◌+◌, ◌<◌, ◌≤◌, List, [], ◌∷◌, ◌++◌, length, get_or, take, Some, slice_get, refl, sym, ap, subst, arith}
-use Rattle.std.specs.List.{Contains}
-use Rattle.std.proofs.lemmas.Bool.{cases_eq, cases_lt}
 use Rattle.std.proofs.lemmas.List.{get_or-map, length-map, nil_from_length, take_more, take_all}
 use Rattle.std.proofs.lemmas.List.Elements.{Contains-append_left, Contains-get_or, Contains-push, Contains-push_cases}
-use Rattle.std.proofs.lemmas.Option.{slice_get_within, get_or_from_slice_get}
-use Rattle.list_laws.proofs.Members.{each}
-use Rattle.list_laws.proofs.Places.{place_below}
-use Rattle.node_defs.specs.declared.items.NodeNet.{NodeNet}
-use Rattle.node_defs.specs.WellFormed.{IsWellFormed}
-use Rattle.plan_defs.specs.declared.plan.Homes.{Homes}
-use Rattle.plan_defs.specs.declared.plan.Plan.{Plan}
-use Rattle.plan_defs.specs.declared.switch.Sending.{Sending}
-use Rattle.plan_defs.specs.declared.switch.Receipt.{Receipt}
-use Rattle.plan_defs.specs.declared.switch.PortLinks.{PortLinks}
-use Rattle.plan_defs.specs.Homes.{AreHomes, home_of, ports_of}
-use Rattle.plan_defs.specs.Readers.{IsReader, IsReaderList}
-use Rattle.plan_defs.specs.Slots.{slot_of, IsFirstFitPlan}
+use Rattle.std.proofs.lemmas.{Bool.cases_eq, Bool.cases_lt, Option.slice_get_within, Option.get_or_from_slice_get}
+use Rattle.std.specs.List.{Contains}
+use Rattle.list_laws.proofs.{Members.each, Places.place_below}
+use Rattle.node_defs.specs.{declared.items.NodeNet.NodeNet, WellFormed.IsWellFormed}
 use Rattle.plan_defs.specs.Switches.{IsSendingOf, IsSent, IsReceiptOf, IsSwitch}
-use Rattle.plan_defs.proofs.lemmas.PlanLemmas.{one_at_home, one_received}
-use Rattle.plan_defs.proofs.lemmas.PortLemmas.{home_port, reader_port}
-use Rattle.switch_set.specs.declared.order.Placed.{Placed}
+use Rattle.plan_defs.specs.declared.{plan.Homes.Homes, plan.Plan.Plan, switch.Sending.Sending, switch.Receipt.Receipt, switch.PortLinks.PortLinks}
+use Rattle.plan_defs.specs.{Homes.AreHomes, Homes.home_of, Homes.ports_of, Readers.IsReader, Readers.IsReaderList, Slots.slot_of, Slots.IsFirstFitPlan}
+use Rattle.plan_defs.proofs.lemmas.{PlanLemmas.one_at_home, PlanLemmas.one_received, PortLemmas.home_port, PortLemmas.reader_port}
 use Rattle.switch_set.specs.code.Links.{links_at, Links, AreSendsOf, AreReceiptsOf, AreLinked}
-use Rattle.switch_set.specs.Order.{items_of, IsPlaced, IsSlotOrder}
+use Rattle.switch_set.specs.{declared.order.Placed.Placed, Order.items_of, Order.IsPlaced, Order.IsSlotOrder}
 use Rattle.switch_set.proofs.lemmas.ListLemmas.{among, listed_same, listed_more}
 
 module _ (nodes : NodeNet) (homes : Homes) (plan : Plan) (formed : IsWellFormed nodes) (are : AreHomes nodes homes) (fit : IsFirstFitPlan nodes homes plan)

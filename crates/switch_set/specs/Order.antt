@@ -1,7 +1,6 @@
 -- Items in slot order.
 use Rattle.std.specs.Prelude.{◌≡◌, ◌≢◌, ℕ, ◌<◌, List, length, map, Contains, All}
-use Rattle.std.specs.List.{AllPairs}
-use Rattle.std.specs.List.Sorted.{IsNonDecreasingBy}
+use Rattle.std.specs.List.{AllPairs, Sorted.IsNonDecreasingBy}
 use Rattle.plan_defs.specs.Slots.{slot_of}
 use Rattle.switch_set.specs.declared.order.Placed.{Placed}
 

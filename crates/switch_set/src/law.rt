@@ -2,9 +2,7 @@
 
 ghost use Rattle.std.specs.Prelude.{◌≡◌, ℕ, List};
 ghost use Rattle.node_defs.specs.declared.items.NodeNet.{NodeNet};
-ghost use Rattle.plan_defs.specs.declared.plan.Homes.{Homes};
-ghost use Rattle.plan_defs.specs.declared.switch.Switch.{Switch};
-ghost use Rattle.plan_defs.specs.Switches.{IsSwitch};
+ghost use Rattle.plan_defs.specs.{declared.plan.Homes.Homes, declared.switch.Switch.Switch, Switches.IsSwitch};
 
 /// A law: there is one switch for items at their homes in their slots. It does nothing.
 pub fn one_switch()

@@ -2,8 +2,7 @@
 
 ghost use Rattle.std.specs.Prelude.{◌≡◌, ℕ, ◌<◌, IfOk, OnOk, Contains, length, slice_set};
 ghost use Rattle.std.specs.List.Sorted.{IsStrictlyIncreasing};
-ghost use Rattle.switch_set.specs.code.Links.{links_at, with_sending, with_receipt};
-ghost use Rattle.switch_set.specs.code.Links.{AreUnlinked, Receives, Links};
+ghost use Rattle.switch_set.specs.code.Links.{links_at, with_sending, with_receipt, AreUnlinked, Receives, Links};
 
 use plan_defs::{PortLinks, Receipt, Sending};
 use seen_list::{List, Memory};

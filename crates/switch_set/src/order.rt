@@ -2,8 +2,7 @@
 
 ghost use Rattle.std.specs.Prelude.{◌≡◌, ◌<◌, ◌≤◌, ◌^◌, IfOk, length, map};
 ghost use Rattle.std.specs.List.{range_with_len};
-ghost use Rattle.switch_set.specs.Order.{IsSlotOrder};
-ghost use Rattle.switch_set.specs.code.Order.{placed_at};
+ghost use Rattle.switch_set.specs.{Order.IsSlotOrder, code.Order.placed_at};
 
 use seen_list::Memory;
 use std::alloc::Global;

@@ -2,9 +2,7 @@
 
 ghost use Rattle.std.specs.Prelude.{IfOk};
 ghost use Rattle.node_defs.specs.WellFormed.{IsWellFormed};
-ghost use Rattle.plan_defs.specs.Homes.{AreHomes};
-ghost use Rattle.plan_defs.specs.Slots.{IsFirstFitPlan};
-ghost use Rattle.plan_defs.specs.Switches.{IsSwitch};
+ghost use Rattle.plan_defs.specs.{Homes.AreHomes, Slots.IsFirstFitPlan, Switches.IsSwitch};
 
 use crate::links::{link, unlinked};
 use crate::order::slot_order;

@@ -1,14 +1,11 @@
 -- The words of a part, one after another.
 use Rattle.std.proofs.Common.{◌≡◌, ℕ, ◌+◌, ◌<◌, ◌≤◌, Bool, false, List, [], ◌∷◌, length, Some, None, sym, ap, ◌∙◌, refl, ⊎_elim, arith, take_all, ltb}
-use Rattle.std.specs.Prelude.{filter}
-use Rattle.std.specs.List.{before_first, after_first, position, position_or_len, slice_split}
 use Rattle.std.proofs.lemmas.Bool.{cases_lt, cond-true, cond-false, lt-ltb, le-ltb}
-use Rattle.std.proofs.lemmas.List.{length-take-le, drop_all}
-use Rattle.std.proofs.lemmas.List.Elements.{All-from_get_or}
-use Rattle.std.proofs.lemmas.List.Sums.{prefix_len-le-length, fails_before_first}
+use Rattle.std.proofs.lemmas.List.{length-take-le, drop_all, Elements.All-from_get_or, Sums.prefix_len-le-length, Sums.fails_before_first}
 use Rattle.std.proofs.lemmas.List.Splits.{slice_split_first, slice_split_none}
-use Rattle.text_lines.specs.Bytes.{is_blank}
-use Rattle.text_lines.specs.Words.{is_nonempty, words_of}
+use Rattle.std.specs.List.{before_first, after_first, position, position_or_len, slice_split}
+use Rattle.std.specs.Prelude.{filter}
+use Rattle.text_lines.specs.{Bytes.is_blank, Words.is_nonempty, Words.words_of}
 use Rattle.text_lines.proofs.lemmas.AnswerLemmas.{none_is_not_some}
 
 -- where no element passes, all of them stand before the first that does

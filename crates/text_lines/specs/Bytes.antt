@@ -1,8 +1,6 @@
 -- What a byte is in a text of lines.
 use Rattle.std.specs.Prelude.{ℕ, Bool, ◌+◌, ◌==◌, ◌||◌, List, Option, take, drop}
-use Rattle.std.specs.List.{position}
-use Rattle.std.specs.Option.{option_map}
-use Rattle.std.specs.Char.{is_ascii_graphic}
+use Rattle.std.specs.{List.position, Option.option_map, Char.is_ascii_graphic}
 
 -- LF, which ends a line
 abbrev pub is_line_feed : ℕ → Bool

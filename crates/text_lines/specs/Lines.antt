@@ -1,7 +1,6 @@
 -- The lines of a text.
 use Rattle.std.specs.Prelude.{ℕ, List, [], ◌∷◌, map, if◌then◌else◌}
-use Rattle.std.specs.List.{before_first, onto_first}
-use Rattle.std.specs.Str.Lines.{strip_carriage_return}
+use Rattle.std.specs.{List.before_first, List.onto_first, Str.Lines.strip_carriage_return}
 use Rattle.text_lines.specs.Bytes.{is_line_feed, is_hash}
 
 -- the lines, each without the LF that ends it; the last one may have none

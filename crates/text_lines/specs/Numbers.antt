@@ -1,7 +1,6 @@
 -- Decimal numbers of any length.
 use Rattle.std.specs.Prelude.{ℕ, ◌+◌, ◌-◌, ◌*◌, ◌&&◌, List, length, nat_lt, nat_le, Option, Some, None, if◌then◌else◌}
-use Rattle.std.specs.List.{fold, list_all}
-use Rattle.std.specs.Char.{is_ascii_digit}
+use Rattle.std.specs.{List.fold, List.list_all, Char.is_ascii_digit}
 
 -- the value of decimal digits, the first of which counts most
 abbrev pub digits_value : List ℕ → ℕ

@@ -1,8 +1,6 @@
 //! What a byte is, and a text cut at the first of a byte.
 
-ghost use Rattle.std.specs.Prelude.{◌≡◌, ◌==◌};
-ghost use Rattle.std.specs.List.{position};
-ghost use Rattle.std.specs.Option.{option_map};
+ghost use Rattle.std.specs.{Prelude.◌≡◌, Prelude.◌==◌, List.position, Option.option_map};
 ghost use Rattle.text_lines.specs.Bytes.{cut_at};
 ghost use Rattle.text_lines.specs.Bytes as byte_specs;
 

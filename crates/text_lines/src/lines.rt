@@ -1,11 +1,9 @@
 //! The lines of a text.
 
 ghost use Rattle.std.specs.Prelude.{◌≡◌, ◌^◌, ◌+◌, ◌<◌, [], ◌∷◌, length};
-ghost use Rattle.std.specs.List.{before_first, after_first, enumerate_from};
-ghost use Rattle.std.specs.Iterator.{YieldsFirstBy, item_count};
-ghost use Rattle.text_lines.specs.Bytes.{is_line_feed};
+ghost use Rattle.std.specs.{List.before_first, List.after_first, List.enumerate_from, Iterator.YieldsFirstBy, Iterator.item_count};
 ghost use Rattle.std.specs.Str.Lines.{strip_carriage_return};
-ghost use Rattle.text_lines.specs.Lines.{lines_of, part_of, parts_of};
+ghost use Rattle.text_lines.specs.{Bytes.is_line_feed, Lines.lines_of, Lines.part_of, Lines.parts_of};
 
 use crate::bytes::split_once;
 use std::marker::Model;

@@ -1,10 +1,8 @@
 //! The words of a part of a line.
 
 ghost use Rattle.std.specs.Prelude.{◌≡◌, [], ◌∷◌, MatchOption, List as Items, ℕ, length};
-ghost use Rattle.std.specs.List.{before_first, after_first, position};
-ghost use Rattle.std.specs.Iterator.{YieldsFirstRef, item_count};
-ghost use Rattle.text_lines.specs.Bytes.{is_blank as is_blank_byte};
-ghost use Rattle.text_lines.specs.Words.{words_of};
+ghost use Rattle.std.specs.{List.before_first, List.after_first, List.position, Iterator.YieldsFirstRef, Iterator.item_count};
+ghost use Rattle.text_lines.specs.{Bytes.is_blank as is_blank_byte, Words.words_of};
 
 use crate::bytes::is_blank;
 use std::marker::Model;

@@ -1,8 +1,7 @@
 -- A line of a trace in room of a fixed size.
 use Rattle.std.specs.Prelude.{ℕ, ◌+◌, ◌≤◌, length}
 use Rattle.seen_list.specs.Filling.{Filling}
-use Rattle.net_defs.specs.declared.netlist.Netlist.{Netlist}
-use Rattle.net_defs.specs.Trace.{header_line}
+use Rattle.net_defs.specs.{declared.netlist.Netlist.Netlist, Trace.header_line}
 
 -- the most bytes of the line of a cycle with so many values: seven digits, a space, a character for
 -- each value and the line end

@@ -2,9 +2,7 @@
 use Rattle.std.specs.Prelude.{◌≡◌, ◌≤◌, ℕ, ◌+◌, List, ◌++◌, length, Some, slice_get, codes, decimal}
 use Rattle.std.specs.List.{enumerate_from, flat_map}
 use Rattle.limits.specs.declared.TheConstants.{MAX_CYCLES}
-use Rattle.net_defs.specs.declared.netlist.Netlist.{Netlist}
-use Rattle.net_defs.specs.declared.trace.CellRow.{CellRow}
-use Rattle.net_defs.specs.Trace.{header_line, cycle_line}
+use Rattle.net_defs.specs.{declared.netlist.Netlist.Netlist, declared.trace.CellRow.CellRow, Trace.header_line, Trace.cycle_line}
 use Rattle.seen_list.specs.Filling.{Filling}
 use Rattle.trace_text.specs.Line.{HasRoom}
 

@@ -4,8 +4,7 @@ ghost use Rattle.std.specs.Prelude.{◌≡◌, ◌+◌, ◌^◌, ◌<◌, ◌≤
 ghost use Rattle.std.specs.List.{flat_map};
 ghost use Rattle.limits.specs.declared.TheConstants.{MAX_CYCLES};
 ghost use Rattle.logic_four.specs.Values.{value_char};
-ghost use Rattle.net_defs.specs.Canonical.{name_of};
-ghost use Rattle.net_defs.specs.Trace.{header_line, cycle_line};
+ghost use Rattle.net_defs.specs.{Canonical.name_of, Trace.header_line, Trace.cycle_line};
 ghost use Rattle.trace_text.specs.Line.{HasRoom, row_room};
 
 use itoa::Buffer;

@@ -2,10 +2,9 @@
 
 ghost use Rattle.std.specs.Prelude.{◌≡◌, ◌≤◌, ℕ, Some, length, slice_get};
 ghost use Rattle.edge_io.specs.Writing.{Writes};
-ghost use Rattle.trace_text.specs.Lines.{FitsLine, cycle_lines, trace_text};
+ghost use Rattle.trace_text.specs.{Lines.FitsLine, Lines.cycle_lines, Lines.trace_text, Line.row_room};
 ghost use Rattle.limits.specs.declared.TheConstants.{MAX_CYCLES};
 ghost use Rattle.net_defs.specs.declared.trace.CellRow.{CellRow};
-ghost use Rattle.trace_text.specs.Line.{row_room};
 
 use crate::TraceLine;
 use crate::piece::write_piece;

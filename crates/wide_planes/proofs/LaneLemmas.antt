@@ -1,14 +1,11 @@
 -- A claim on the lanes of wide planes holds where it holds for every choice of their bits.
 use Rattle.std.proofs.Common.{◌≡◌, ◌∙◌, ℕ, ◌+◌, ◌*◌, ◌/◌, ◌%◌, ◌<◌, true, eqb, eqb-true, ap, ap₂, arith}
 use Rattle.std.proofs.lemmas.Nat.Bits.{bit_at-lt}
-use Rattle.logic_four.specs.declared.V4.{V4}
-use Rattle.logic_four.specs.Values.{code_of, value_of}
+use Rattle.logic_four.specs.{declared.V4.V4, Values.code_of, Values.value_of}
 use Rattle.logic_four.proofs.lemmas.TestLemmas.{same}
-use Rattle.lane_planes.proofs.lemmas.BitLemmas.{value_of_bits}
 use Rattle.lane_planes.proofs.lemmas.LaneLemmas.{bits, for_both, at_bit, of_bits, of_two_bits}
-use Rattle.wide_planes.specs.declared.planes.Words.{Words}
-use Rattle.wide_planes.specs.declared.planes.Wide.{Wide}
-use Rattle.wide_planes.specs.Lanes.{bit_of, lane_of}
+use Rattle.lane_planes.proofs.lemmas.BitLemmas.{value_of_bits}
+use Rattle.wide_planes.specs.{declared.planes.Words.Words, declared.planes.Wide.Wide, Lanes.bit_of, Lanes.lane_of}
 
 few : (w : Words) (k : ℕ) → bit_of w k < 2
 unfolding bit_of

@@ -1,12 +1,8 @@
 -- Operations on vectors of words, at the bit of one lane.
 use Rattle.std.proofs.Common.{◌≡◌, ◌≢◌, ◌∙◌, ℕ, zero, suc, ◌*◌, ◌/◌, ◌%◌, ◌<◌, List, length, get_or, set, inl, inr, sym, ap, arith}
-use Rattle.std.specs.Int.{bit_at}
-use Rattle.std.specs.Simd.Lanes.{zip2}
-use Rattle.std.specs.Prelude.{replicate}
-use Rattle.std.proofs.lemmas.Simd.{length-zip2, get_or-zip2}
-use Rattle.std.proofs.lemmas.List.{get_or-replicate, get_or-set_same, get_or-set_other}
-use Rattle.std.proofs.lemmas.Nat.Bits.{bit_at_ones, bit_at-zero}
-use Rattle.std.proofs.lemmas.Bool.Decides.{eqb_tells}
+use Rattle.std.proofs.lemmas.{Simd.length-zip2, Simd.get_or-zip2, List.get_or-replicate, List.get_or-set_same, List.get_or-set_other}
+use Rattle.std.proofs.lemmas.{Nat.Bits.bit_at_ones, Nat.Bits.bit_at-zero, Bool.Decides.eqb_tells}
+use Rattle.std.specs.{Int.bit_at, Simd.Lanes.zip2, Prelude.replicate}
 
 -- the bit of a lane
 abbrev pub wide_bit : List ℕ → ℕ → ℕ

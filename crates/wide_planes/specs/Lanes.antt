@@ -1,11 +1,8 @@
 -- The values that stand side by side in wide planes.
 use Rattle.std.specs.Prelude.{ℕ, ◌+◌, ◌*◌, ◌/◌, ◌%◌, slice_index}
 use Rattle.std.specs.Int.{bit_at}
-use Rattle.logic_four.specs.declared.V4.{V4}
-use Rattle.logic_four.specs.declared.V4.TheVariants.{Zero, One}
-use Rattle.logic_four.specs.Values.{value_of}
-use Rattle.wide_planes.specs.declared.planes.Words.{Words}
-use Rattle.wide_planes.specs.declared.planes.Wide.{Wide}
+use Rattle.logic_four.specs.{declared.V4.V4, declared.V4.TheVariants.Zero, declared.V4.TheVariants.One, Values.value_of}
+use Rattle.wide_planes.specs.declared.planes.{Words.Words, Wide.Wide}
 
 -- the bit of a lane
 unfoldable pub bit_of : Words → ℕ → ℕ

@@ -2,8 +2,7 @@
 
 ghost use Rattle.std.specs.Prelude.{◌≡◌, ◌∷◌, [], ◌<◌, ℕ};
 ghost use Rattle.logic_four.specs.Gates.{gate_value};
-ghost use Rattle.wide_planes.specs.declared.TheConstants.{WIDE_LANES};
-ghost use Rattle.wide_planes.specs.Lanes.{lane_of};
+ghost use Rattle.wide_planes.specs.{declared.TheConstants.WIDE_LANES, Lanes.lane_of};
 
 use crate::pairs::{and_two, bus_two, inverted, or_two, settle_planes, tri_two, xor_two};
 use crate::planes::Wide;

@@ -1,8 +1,7 @@
 //! Single lanes, and the same value in all of them.
 
 ghost use Rattle.std.specs.Prelude.{◌≡◌, ◌≢◌, ◌<◌, ℕ};
-ghost use Rattle.wide_planes.specs.declared.TheConstants.{WIDE_LANES};
-ghost use Rattle.wide_planes.specs.Lanes.{lane_of};
+ghost use Rattle.wide_planes.specs.{declared.TheConstants.WIDE_LANES, Lanes.lane_of};
 
 use crate::planes::{Wide, Words};
 use logic_four::{V4, code, decoded};

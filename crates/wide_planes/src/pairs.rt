@@ -1,11 +1,10 @@
 //! Gates of one operand and of two, by a few operations on whole vectors.
 
 ghost use Rattle.std.specs.Prelude.{◌≡◌, ◌∷◌, [], ◌<◌, ℕ};
-ghost use Rattle.logic_four.specs.Values.{settled, inverse};
 ghost use Rattle.logic_four.specs.Gates.{and_value, or_value, xor_value, bus_value, tri_value};
+ghost use Rattle.logic_four.specs.Values.{settled, inverse};
 ghost use Rattle.lane_planes.specs.Lanes.{forced_value};
-ghost use Rattle.wide_planes.specs.declared.TheConstants.{WIDE_LANES};
-ghost use Rattle.wide_planes.specs.Lanes.{bit_of, lane_of, opposite};
+ghost use Rattle.wide_planes.specs.{declared.TheConstants.WIDE_LANES, Lanes.bit_of, Lanes.lane_of, Lanes.opposite};
 
 use crate::planes::{Wide, Words};
 

@@ -2,8 +2,7 @@
 
 ghost use Rattle.std.specs.Prelude.{◌≡◌, ◌≢◌, ◌+◌, ◌-◌, ◌%◌, ◌<◌, ℕ, length, min, max};
 ghost use Rattle.std.specs.Int.{bit_at};
-ghost use Rattle.wide_planes.specs.declared.TheConstants.{WIDE_LANES};
-ghost use Rattle.wide_planes.specs.Lanes.{bit_of};
+ghost use Rattle.wide_planes.specs.{declared.TheConstants.WIDE_LANES, Lanes.bit_of};
 
 use crate::planes::Words;
 use std::simd::u32x8;

@@ -1,26 +1,18 @@
 -- What the rows of an order come to: the trace after the last row, and else the rows that are done.
 use Rattle.std.proofs.Common.{None, Option, Some, ◌≡◌, ◌∙◌, sym, ap, subst, inl, inr, ℕ, ◌*◌, arith}
 use Rattle.std.proofs.lemmas.Option.{none-some, same_Some}
-use Rattle.net_defs.specs.declared.homes.HomeChoice.{HomeChoice}
-use Rattle.net_defs.specs.declared.netlist.Netlist.{Netlist}
-use Rattle.net_defs.specs.declared.timing.Timing.{Timing}
-use Rattle.net_defs.specs.declared.stimulus.Stimulus.{Stimulus}
-use Rattle.net_defs.specs.declared.trace.Rows.{Rows}
-use Rattle.net_defs.specs.Time.{cycle_count, turn_count}
-use Rattle.net_defs.specs.Valid.{IsValidStimulus}
+use Rattle.net_defs.specs.declared.{homes.HomeChoice.HomeChoice, netlist.Netlist.Netlist, timing.Timing.Timing, stimulus.Stimulus.Stimulus, trace.Rows.Rows}
+use Rattle.net_defs.specs.{Time.cycle_count, Time.turn_count, Valid.IsValidStimulus}
 use Rattle.machine_text.specs.declared.machine.Machine.{Machine}
 use Rattle.image_defs.specs.declared.image.Image.{Image}
 use Rattle.event_defs.specs.Steps.{AllDone, AreFirstSteps, rows_done}
 use Rattle.seen_list.specs.Filling.{Filling}
-use Rattle.stim_text.specs.declared.order.Order.{Order}
-use Rattle.stim_text.specs.Orders.{steps_of}
+use Rattle.stim_text.specs.{declared.order.Order.Order, Orders.steps_of}
 use Rattle.trace_text.specs.Line.{HasRoom}
 use Rattle.machine_run.specs.Shown.{AreShown}
-use Rattle.call_steps.specs.Images.{IsImageOf, IsMachineImage}
-use Rattle.yse_commands.specs.Orders.{EndsIn, EndsInOrder}
+use Rattle.call_steps.specs.{Images.IsImageOf, Images.IsMachineImage, Outcome.Outcome, Outcome.done, Outcome.unfinished}
+use Rattle.yse_commands.specs.{Orders.EndsIn, Orders.EndsInOrder, Outputs.CanPrint, Outputs.trace_bytes}
 use Rattle.order_run.specs.Orders.{AreRowsInOrder}
-use Rattle.call_steps.specs.Outcome.{Outcome, done, unfinished}
-use Rattle.yse_commands.specs.Outputs.{CanPrint, trace_bytes}
 use Rattle.yse_commands.proofs.ShownLemmas.{front_shown, shown_prints}
 
 -- the rows that are done by the end of an order, with a netlist and a line of its trace

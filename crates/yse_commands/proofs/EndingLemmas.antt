@@ -1,13 +1,9 @@
 -- The outcome that an output is, by where its run ended.
 use Rattle.std.proofs.Common.{◌≡◌, sym, refl, subst, ℕ, List, [], Option, Some, None, Ok}
-use Rattle.yse_commands.specs.declared.output.Ending.{Ending}
-use Rattle.yse_commands.specs.declared.output.Output.{Output}
+use Rattle.yse_commands.specs.declared.output.{Ending.Ending, Output.Output}
+use Rattle.yse_commands.specs.{code.Endings.ending_in, code.Endings.status_after, code.Endings.IsTold, Ends.MayWrite, Outputs.bytes_of, Refusals.ended_with}
 use Rattle.yse_commands.specs.declared.output.Output.TheVariants as output
 use Rattle.refusals.specs.declared.status.Status.TheVariants as status
-use Rattle.yse_commands.specs.code.Endings.{ending_in, status_after, IsTold}
-use Rattle.yse_commands.specs.Ends.{MayWrite}
-use Rattle.yse_commands.specs.Outputs.{bytes_of}
-use Rattle.yse_commands.specs.Refusals.{ended_with}
 use Rattle.edge_io.specs.Writing.{TakesLine}
 use Rattle.edge_io.proofs.lemmas.WritingLemmas.{writes_none, tells_written}
 

@@ -1,5 +1,5 @@
 -- The turns of a run on the machine are those of its image.
-use Rattle.machine_text.specs.Machines.{ports_of}
+use Rattle.machine_text.specs.{Machines.ports_of, declared.machine.Machine.Machine}
 use Rattle.std.proofs.Common.{◌≡◌, ◌∙◌, sym, ap, refl, subst, inr, ℕ, ◌+◌, ◌*◌, List, length, Option, Some, Result, Ok, Err, arith}
 use Rattle.std.specs.Prelude.{min}
 use Rattle.machine_run.specs.Blocks.{AreVisitsOfRun, block_cycles, cycles_of_blocks, window_of}
@@ -9,13 +9,8 @@ use Rattle.large_run.specs.Setting.{large_machine}
 use Rattle.cmd_words.specs.declared.command.RunWords.{RunWords}
 use Rattle.edge_io.specs.declared.writing.WriteNo.{WriteNo}
 use Rattle.image_defs.specs.declared.image.Image.{Image}
-use Rattle.machine_text.specs.declared.machine.Machine.{Machine}
-use Rattle.net_defs.specs.declared.homes.HomeChoice.{HomeChoice}
-use Rattle.net_defs.specs.declared.netlist.Netlist.{Netlist}
-use Rattle.net_defs.specs.declared.stimulus.Stimulus.{Stimulus}
-use Rattle.net_defs.specs.declared.timing.Timing.{Timing}
-use Rattle.net_defs.specs.Time.{cycle_count}
-use Rattle.net_defs.specs.Valid.{input_count}
+use Rattle.net_defs.specs.declared.{homes.HomeChoice.HomeChoice, netlist.Netlist.Netlist, stimulus.Stimulus.Stimulus, timing.Timing.Timing}
+use Rattle.net_defs.specs.{Time.cycle_count, Valid.input_count}
 use Rattle.port_host.specs.Rows.{printed_sources}
 use Rattle.call_steps.specs.Images.{IsImageOf, IsMachineImage}
 use Rattle.yse_commands.specs.Told.{TellsTurns, block_of, large_turns, run_turns}

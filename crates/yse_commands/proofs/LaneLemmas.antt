@@ -3,9 +3,7 @@ use Rattle.std.proofs.Common.{refl, ℕ, ◌+◌, List, [], ◌∷◌}
 use Rattle.std.specs.List.{flat_map, enumerate_from}
 use Rattle.machine_run.specs.Lines.{bytes_of_run}
 use Rattle.image_defs.specs.declared.image.Image.{Image}
-use Rattle.net_defs.specs.declared.netlist.Netlist.{Netlist}
-use Rattle.net_defs.specs.declared.stimulus.Stimulus.{Stimulus}
-use Rattle.net_defs.specs.declared.timing.Timing.{Timing}
+use Rattle.net_defs.specs.declared.{netlist.Netlist.Netlist, stimulus.Stimulus.Stimulus, timing.Timing.Timing}
 use Rattle.pack_machine.specs.Lines.{bytes_of_lane, bytes_of_lanes}
 use Rattle.stim_text.specs.declared.lanes.Lanes.{Lanes}
 use Rattle.call_steps.specs.Images.{IsImageOf}

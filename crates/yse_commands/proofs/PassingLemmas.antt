@@ -2,19 +2,12 @@
 use Rattle.std.proofs.Common.{◌≡◌, ℕ, Bool, List, ◌++◌, Option, Ok, Err}
 use Rattle.edge_io.specs.declared.counts.FileCounts.{FileCounts}
 use Rattle.cmd_words.specs.declared.command.RunWords.{RunWords}
-use Rattle.net_defs.specs.declared.netlist.Netlist.{Netlist}
-use Rattle.net_defs.specs.declared.stimulus.Stimulus.{Stimulus}
-use Rattle.net_defs.specs.declared.timing.Timing.{Timing}
-use Rattle.call_steps.specs.declared.reading.Timed.{Timed}
-use Rattle.refusals.specs.declared.refusal.Refusal.{Refusal}
-use Rattle.call_steps.specs.Outcome.{Outcome}
+use Rattle.net_defs.specs.declared.{netlist.Netlist.Netlist, stimulus.Stimulus.Stimulus, timing.Timing.Timing}
 use Rattle.call_steps.specs.Passing.{AfterTimed, Continuation, Never, Only, Passes}
-use Rattle.call_steps.specs.Readings.{Reading}
+use Rattle.call_steps.specs.{declared.reading.Timed.Timed, Outcome.Outcome, Readings.Reading, Refused.refused_of, Files.AfterNetlist, Files.AfterStimulus}
+use Rattle.refusals.specs.declared.refusal.Refusal.{Refusal}
 use Rattle.yse_commands.specs.Refusals.{Follows}
-use Rattle.call_steps.specs.Refused.{refused_of}
-use Rattle.call_steps.specs.Files.{AfterNetlist, AfterStimulus}
-use Rattle.call_steps.proofs.lemmas.ReadingLemmas.{readings_both}
-use Rattle.call_steps.proofs.lemmas.WeakerLemmas.{Implies, stimulus_so, timed_so}
+use Rattle.call_steps.proofs.lemmas.{ReadingLemmas.readings_both, WeakerLemmas.Implies, WeakerLemmas.stimulus_so, WeakerLemmas.timed_so}
 use Rattle.call_steps.proofs.PassingLemmas.{only_so}
 
 module _ (names : Option (List ℕ → Bool)) (bytes : Option (List ℕ → List ℕ)) where

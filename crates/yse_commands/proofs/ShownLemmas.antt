@@ -1,25 +1,15 @@
 -- The cells that the host keeps are the printed values of the reference simulation.
 use Rattle.std.proofs.Common.{◌≡◌, ◌∙◌, ℕ, zero, suc, ◌+◌, ◌-◌, ◌<◌, ◌≤◌, List, ◌++◌, length, Some, slice_get, sym, ap, refl, arith}
-use Rattle.std.specs.List.{flat_map, range_with_len}
-use Rattle.std.proofs.lemmas.List.{ext_get_or, length-map}
-use Rattle.std.proofs.lemmas.List.FromFn.{get_or-map-range_with_len, length-map-range_with_len}
+use Rattle.std.proofs.lemmas.List.{ext_get_or, length-map, FromFn.get_or-map-range_with_len, FromFn.length-map-range_with_len}
 use Rattle.std.proofs.lemmas.Option.{slice_get_within}
-use Rattle.machine_run.specs.Lines.{bytes_of_run, cells_shown}
-use Rattle.logic_four.specs.declared.V4.{V4}
-use Rattle.logic_four.specs.declared.V4.TheVariants.{Undef}
-use Rattle.net_defs.specs.declared.netlist.Netlist.{Netlist}
-use Rattle.net_defs.specs.declared.timing.Timing.{Timing}
-use Rattle.net_defs.specs.declared.stimulus.Stimulus.{Stimulus}
-use Rattle.net_defs.specs.declared.trace.CellRow.{CellRow}
-use Rattle.net_defs.specs.declared.trace.Rows.{Rows}
-use Rattle.net_defs.specs.Time.{cycle_count}
-use Rattle.net_defs.specs.Steps.{State}
+use Rattle.std.specs.List.{flat_map, range_with_len}
+use Rattle.machine_run.specs.{Lines.bytes_of_run, Lines.cells_shown, Shown.AreShown}
+use Rattle.logic_four.specs.declared.V4.{V4, TheVariants.Undef}
 use Rattle.net_defs.specs.Trace.{header_line, cells_of, cycle_line, trace_to, IsTrace}
-use Rattle.image_defs.specs.declared.image.Image.{Image}
-use Rattle.image_defs.specs.Frames.{shown}
-use Rattle.net_defs.specs.Valid.{IsValidStimulus}
+use Rattle.net_defs.specs.declared.{netlist.Netlist.Netlist, timing.Timing.Timing, stimulus.Stimulus.Stimulus, trace.CellRow.CellRow, trace.Rows.Rows}
+use Rattle.net_defs.specs.{Time.cycle_count, Steps.State, Valid.IsValidStimulus}
+use Rattle.image_defs.specs.{declared.image.Image.Image, Frames.shown}
 use Rattle.port_host.specs.Rows.{printed_sources}
-use Rattle.machine_run.specs.Shown.{AreShown}
 use Rattle.call_steps.specs.Images.{IsImageOf}
 use Rattle.seen_list.specs.Filling.{Filling}
 use Rattle.trace_text.specs.Line.{HasRoom}

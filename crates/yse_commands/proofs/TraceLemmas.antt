@@ -2,16 +2,10 @@
 use Rattle.std.proofs.Common.{◌≡◌, ◌∙◌, ℕ, suc, ◌+◌, List, [], ◌∷◌, ◌++◌, length, Some, slice_get, refl, sym, ap, arith, zero-add}
 use Rattle.std.specs.List.{flat_map, enumerate_from, range_with_len}
 use Rattle.logic_four.specs.declared.V4.{V4}
-use Rattle.net_defs.specs.declared.netlist.Netlist.{Netlist}
-use Rattle.net_defs.specs.declared.timing.Timing.{Timing}
-use Rattle.net_defs.specs.declared.stimulus.Stimulus.{Stimulus}
-use Rattle.net_defs.specs.declared.trace.CellRow.{CellRow}
-use Rattle.net_defs.specs.declared.trace.Rows.{Rows}
-use Rattle.net_defs.specs.Steps.{State}
-use Rattle.net_defs.specs.Time.{cycle_count}
 use Rattle.net_defs.specs.Trace.{header_line, cycle_line, cells_of, trace_to, IsTrace}
-use Rattle.yse_commands.specs.Outputs.{cycle_lines}
-use Rattle.yse_commands.specs.code.Printed.{ArePrinted}
+use Rattle.net_defs.specs.declared.{netlist.Netlist.Netlist, timing.Timing.Timing, stimulus.Stimulus.Stimulus, trace.CellRow.CellRow, trace.Rows.Rows}
+use Rattle.net_defs.specs.{Steps.State, Time.cycle_count}
+use Rattle.yse_commands.specs.{Outputs.cycle_lines, code.Printed.ArePrinted}
 
 -- lines of rows from a cycle on, whose cells f says
 lines_from : (f : ℕ → List V4) (rows : List CellRow) (n : ℕ) → ((c : ℕ) (row : CellRow) → slice_get rows c ≡ Some row → row.cells ≡ f (n + c)) → flat_map (λ p. cycle_line (p.0 + 1) p.1.cells) (enumerate_from n rows) ≡ flat_map (λ c. cycle_line (c + 1) (f c)) (range_with_len n (length rows))

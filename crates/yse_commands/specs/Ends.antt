@@ -1,14 +1,10 @@
 -- How a call ends in an outcome, by its status and its sinks.
 use Rattle.std.specs.Prelude.{◌≡◌, ◌⊎◌, ◌≤◌, ⊤, ℕ, List, Bool, false, Option, Some, None, slice_get}
 use Rattle.std.specs.Io.KnownBytes.{append_known}
-use Rattle.edge_io.specs.Counts.{Rose}
-use Rattle.edge_io.specs.Names.{is_absent}
-use Rattle.edge_io.specs.Writing.{TakesProperPrefix}
-use Rattle.refusals.specs.declared.status.Status.{Status}
+use Rattle.edge_io.specs.{Counts.Rose, Names.is_absent, Writing.TakesProperPrefix}
+use Rattle.refusals.specs.{declared.status.Status.Status, Lines.write_fault_line}
 use Rattle.refusals.specs.declared.status.Status.TheVariants as status
-use Rattle.refusals.specs.Lines.{write_fault_line}
-use Rattle.call_steps.specs.Outcome.{Outcome}
-use Rattle.call_steps.specs.Readings.{Reading}
+use Rattle.call_steps.specs.{Outcome.Outcome, Readings.Reading}
 
 -- the statuses at which the whole output was written
 abbrev pub IsWhole : Status → Type 0

@@ -1,23 +1,13 @@
 -- What a whole call comes to, given the words and what was read: the chain of checks of its command.
 use Rattle.std.specs.Prelude.{◌≡◌, ℕ, List, Result, Ok, Err}
-use Rattle.cmd_words.specs.declared.command.Command.{Command}
+use Rattle.cmd_words.specs.{declared.command.Command.Command, Forms.HasForm}
 use Rattle.cmd_words.specs.declared.command.Command.TheVariants as command
-use Rattle.cmd_words.specs.Forms.{HasForm}
 use Rattle.yse_commands.specs.declared.layout.Sheet.TheVariants as sheet
 use Rattle.refusals.specs.declared.status.Status.TheVariants as status
-use Rattle.call_steps.specs.Checks.{After}
+use Rattle.call_steps.specs.{Checks.After, Outcome.Outcome, Outcome.refusal, Readings.Reading}
 use Rattle.refusals.specs.Lines.{usage_line}
-use Rattle.call_steps.specs.Outcome.{Outcome, refusal}
-use Rattle.call_steps.specs.Readings.{Reading}
-use Rattle.yse_commands.specs.commands.Cover.{ExpectedCover}
-use Rattle.yse_commands.specs.commands.Exec.{ExpectedExec}
-use Rattle.yse_commands.specs.commands.Fault.{ExpectedFault}
-use Rattle.yse_commands.specs.commands.Help.{ExpectedHelp}
-use Rattle.yse_commands.specs.commands.Large.{ExpectedLarge}
-use Rattle.yse_commands.specs.commands.Layout.{ExpectedLayout}
-use Rattle.yse_commands.specs.commands.Pack.{ExpectedPack}
-use Rattle.yse_commands.specs.commands.Run.{ExpectedOrder, ExpectedRefer, ExpectedRun}
-use Rattle.yse_commands.specs.commands.Show.{ExpectedShow}
+use Rattle.yse_commands.specs.commands.{Cover.ExpectedCover, Exec.ExpectedExec, Fault.ExpectedFault, Help.ExpectedHelp, Large.ExpectedLarge}
+use Rattle.yse_commands.specs.commands.{Layout.ExpectedLayout, Pack.ExpectedPack, Run.ExpectedOrder, Run.ExpectedRefer, Run.ExpectedRun, Show.ExpectedShow}
 
 abbrev pub ExpectedOf : Command → List Reading → Outcome → Type 0
 ExpectedOf (command.Run words) readings outcome = ExpectedRun words readings outcome

@@ -1,21 +1,13 @@
 -- Where a run in a given order ends.
 use Rattle.std.specs.Prelude.{◌≡◌, ◌⊎◌, ℕ, List}
 use Rattle.machine_text.specs.declared.machine.Machine.{Machine}
-use Rattle.net_defs.specs.declared.homes.HomeChoice.{HomeChoice}
-use Rattle.net_defs.specs.declared.netlist.Netlist.{Netlist}
-use Rattle.net_defs.specs.declared.stimulus.Stimulus.{Stimulus}
-use Rattle.net_defs.specs.declared.timing.Timing.{Timing}
-use Rattle.net_defs.specs.Reference.{IsSimulation}
-use Rattle.net_defs.specs.Steps.{State}
-use Rattle.net_defs.specs.Time.{cycle_count, turn_count}
-use Rattle.net_defs.specs.Trace.{trace_to}
+use Rattle.net_defs.specs.declared.{homes.HomeChoice.HomeChoice, netlist.Netlist.Netlist, stimulus.Stimulus.Stimulus, timing.Timing.Timing}
+use Rattle.net_defs.specs.{Reference.IsSimulation, Steps.State, Time.cycle_count, Time.turn_count, Trace.trace_to}
 use Rattle.image_defs.specs.declared.image.Image.{Image}
-use Rattle.event_defs.specs.declared.place.CoreStep.{CoreStep}
 use Rattle.event_defs.specs.Steps.{CoreState, AreFirstSteps, AllDone, rows_done}
-use Rattle.stim_text.specs.declared.order.Order.{Order}
-use Rattle.stim_text.specs.Orders.{steps_of}
-use Rattle.call_steps.specs.Outcome.{Outcome, done, unfinished}
-use Rattle.call_steps.specs.Images.{IsMachineImage}
+use Rattle.event_defs.specs.declared.place.CoreStep.{CoreStep}
+use Rattle.stim_text.specs.{declared.order.Order.Order, Orders.steps_of}
+use Rattle.call_steps.specs.{Outcome.Outcome, Outcome.done, Outcome.unfinished, Images.IsMachineImage}
 
 -- the state after the steps of an order, one by one from the start, with so many banks
 pub record IsAfterOrder (order : Order) (banks : ℕ) (timing : Timing) (stimulus : Stimulus) (image : Image) (state : CoreState) : Type 0 where

@@ -1,16 +1,12 @@
 -- The output of a request.
 use Rattle.std.specs.Prelude.{◌≡◌, ⊤, ℕ, List, Option, Result, Ok}
 use Rattle.machine_run.specs.Lines.{bytes_of_run}
-use Rattle.edge_io.specs.Writing.{Takes, joined}
-use Rattle.edge_io.specs.declared.writing.WriteNo.{WriteNo}
+use Rattle.edge_io.specs.{Writing.Takes, Writing.joined, declared.writing.WriteNo.WriteNo}
 use Rattle.trace_text.specs.Lines.{FitsLine, trace_text}
 pub use Rattle.trace_text.specs.Lines.{cycle_lines}
 use Rattle.pack_machine.specs.Lines.{bytes_of_lanes}
-use Rattle.yse_commands.specs.declared.output.Output.{Output}
+use Rattle.yse_commands.specs.declared.output.{Output.Output, Trace.Trace, Written.Written, WrittenLanes.WrittenLanes}
 use Rattle.yse_commands.specs.declared.output.Output.TheVariants as output
-use Rattle.yse_commands.specs.declared.output.Trace.{Trace}
-use Rattle.yse_commands.specs.declared.output.Written.{Written}
-use Rattle.yse_commands.specs.declared.output.WrittenLanes.{WrittenLanes}
 
 -- the header and the lines of the rows
 abbrev pub trace_bytes : Trace → List ℕ

@@ -1,16 +1,13 @@
 -- The outcome of an output or a refusal, and what a call that comes to one says of its chain of checks.
 use Rattle.std.specs.Prelude.{◌≡◌, ℕ, List, Bool, Option, Result, Ok, Err}
-use Rattle.edge_io.specs.declared.counts.FileCounts.{FileCounts}
+use Rattle.edge_io.specs.{declared.counts.FileCounts.FileCounts, declared.writing.WriteNo.WriteNo, Writing.joined}
 use Rattle.edge_io.specs.declared.files.Files as files
-use Rattle.edge_io.specs.declared.writing.WriteNo.{WriteNo}
+use Rattle.yse_commands.specs.Outputs.{HasTaken, lanes_bytes, run_bytes, trace_bytes, wrote_in}
 use Rattle.yse_commands.specs.declared.output.Output.{Output}
 use Rattle.yse_commands.specs.declared.output.Output.TheVariants as output
 use Rattle.refusals.specs.declared.refusal.Refusal.{Refusal}
 use Rattle.call_steps.specs.Outcome.{Outcome, Turns, done, telling, unfinished}
-use Rattle.edge_io.specs.Writing.{joined}
-use Rattle.yse_commands.specs.Outputs.{HasTaken, lanes_bytes, run_bytes, trace_bytes, wrote_in}
-use Rattle.call_steps.specs.Readings.{Reading, AreReadings}
-use Rattle.call_steps.specs.Refused.{refused_of}
+use Rattle.call_steps.specs.{Readings.Reading, Readings.AreReadings, Refused.refused_of}
 
 -- an end with the output, which may be that of a run that was not finished
 abbrev pub ended_with : Output → Outcome

@@ -2,12 +2,9 @@
 use Rattle.std.specs.Prelude.{ℕ, Bool, List, Option, Result}
 use Rattle.crew_run.specs.declared.gate.Gate as gate
 use Rattle.edge_io.specs.declared.counts.FileCounts.{FileCounts}
-use Rattle.call_steps.specs.Outcome.{Outcome, Turns}
-use Rattle.call_steps.specs.Readings.{Reading}
+use Rattle.call_steps.specs.{Outcome.Outcome, Outcome.Turns, Readings.Reading}
 use Rattle.refusals.specs.declared.refusal.Refusal.{Refusal}
-use Rattle.yse_commands.specs.declared.output.Output.{Output}
-use Rattle.yse_commands.specs.Refusals.{Follows, outcome_of, written_by}
-use Rattle.yse_commands.specs.Told.{TellsTurns}
+use Rattle.yse_commands.specs.{declared.output.Output.Output, Refusals.Follows, Refusals.outcome_of, Refusals.written_by, Told.TellsTurns}
 
 module _ {G : Type 0} (p : gate.Ghosts G) (names : Option (List ℕ → Bool)) (bytes : Option (List ℕ → List ℕ)) (old new : FileCounts) (gates gates' : List (Option G)) where
   -- a call began some files, told the gates of some turns or of nothing, and comes to what a chain of checks expects

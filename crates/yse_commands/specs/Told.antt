@@ -2,23 +2,16 @@
 use Rattle.std.specs.Prelude.{◌≡◌, ◌⊎◌, ℕ, ◌+◌, ◌*◌, List, length, min, Option, Some, None, Result, Ok, Err}
 use Rattle.cmd_words.specs.declared.command.RunWords.{RunWords}
 use Rattle.crew_run.specs.declared.gate.Gate as gate
-use Rattle.edge_io.specs.declared.writing.WriteNo.{WriteNo}
-use Rattle.edge_io.specs.declared.writing.WriteNo.TheVariants.{Failed}
+use Rattle.edge_io.specs.declared.writing.WriteNo.{WriteNo, TheVariants.Failed}
 use Rattle.large_run.specs.Setting.{large_machine}
-use Rattle.machine_run.specs.Blocks.{block_cycles}
-use Rattle.machine_run.specs.Visits.{AreVisitsOf}
+use Rattle.machine_run.specs.{Blocks.block_cycles, Visits.AreVisitsOf}
 use Rattle.machine_text.specs.Machines.{ports_of}
-use Rattle.call_steps.specs.Designs.{Placed}
-use Rattle.call_steps.specs.Outcome.{Turns}
-use Rattle.net_defs.specs.declared.netlist.Netlist.{Netlist}
-use Rattle.net_defs.specs.declared.stimulus.Stimulus.{Stimulus}
-use Rattle.net_defs.specs.declared.timing.Timing.{Timing}
-use Rattle.net_defs.specs.Time.{cycle_count}
+use Rattle.call_steps.specs.{Designs.Placed, Outcome.Turns}
+use Rattle.net_defs.specs.{declared.netlist.Netlist.Netlist, declared.stimulus.Stimulus.Stimulus, declared.timing.Timing.Timing, Time.cycle_count}
 use Rattle.net_defs.specs.Valid.{input_count}
 use Rattle.refusals.specs.declared.status.Status.{Status}
 use Rattle.refusals.specs.declared.status.Status.TheVariants as status
-use Rattle.stim_text.specs.declared.lanes.Lanes.{Lanes}
-use Rattle.stim_text.specs.Lanes.{longest}
+use Rattle.stim_text.specs.{declared.lanes.Lanes.Lanes, Lanes.longest}
 
 -- the cycles of a block of a run: a cycle has a cell for each input and each printed name
 abbrev pub block_of : Netlist → ℕ

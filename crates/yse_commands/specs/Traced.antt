@@ -1,28 +1,19 @@
 -- What the output of a simulation is, by what its files told.
 use Rattle.std.specs.Prelude.{ℕ, List, Option, Some, None, IfSome, ◌≡◌}
 use Rattle.edge_io.specs.Names.{OfTold}
-use Rattle.net_defs.specs.declared.faults.Fault.{Fault}
-use Rattle.net_defs.specs.declared.netlist.Netlist.{Netlist}
-use Rattle.net_defs.specs.declared.stimulus.Stimulus.{Stimulus}
-use Rattle.net_defs.specs.declared.timing.Timing.{Timing}
-use Rattle.net_defs.specs.Trace.{IsTrace}
-use Rattle.net_defs.specs.Valid.{input_count}
+use Rattle.net_defs.specs.declared.{faults.Fault.Fault, netlist.Netlist.Netlist, stimulus.Stimulus.Stimulus, timing.Timing.Timing}
+use Rattle.net_defs.specs.{Trace.IsTrace, Valid.input_count}
 use Rattle.bench_read.specs.GateLists as gate_lists
 use Rattle.bench_read.specs.Reads as bench
 use Rattle.bench_read.specs.StuckLists as stuck_lists
 use Rattle.fault_sim.specs.Faults.{all_faults}
 use Rattle.stim_text.specs.Stimuli as stim
-use Rattle.stim_text.specs.declared.lanes.Lanes.{Lanes}
-use Rattle.stim_text.specs.LaneTexts.{ReadsAsLanes}
-use Rattle.cmd_words.specs.declared.command.Command.{Command}
+use Rattle.stim_text.specs.{declared.lanes.Lanes.Lanes, LaneTexts.ReadsAsLanes}
+use Rattle.cmd_words.specs.declared.command.{Command.Command, RunWords.RunWords}
 use Rattle.cmd_words.specs.declared.command.Command.TheVariants as command
-use Rattle.cmd_words.specs.declared.command.RunWords.{RunWords}
 use Rattle.help_text.specs.Texts.{text_of}
 use Rattle.call_steps.specs.Checks.{listing}
-use Rattle.yse_commands.specs.Words.{traced_by}
-use Rattle.yse_commands.specs.commands.Cover.{IsCoverage}
-use Rattle.yse_commands.specs.commands.Fault.{IsFaultList}
-use Rattle.yse_commands.specs.commands.Pack.{AreLaneTraces}
+use Rattle.yse_commands.specs.{Words.traced_by, commands.Cover.IsCoverage, commands.Fault.IsFaultList, commands.Pack.AreLaneTraces}
 
 -- The text of the netlist file, and the netlist that it reads as; the text of the stimulus file, and the
 -- stimulus that it reads as for the netlist's inputs. Where the store tells the bytes of its files, the texts

@@ -3,24 +3,19 @@ use Rattle.std.specs.Prelude.{◌≡◌, ◌<◌, ◌⊎◌, ℕ, List, length, 
 use Rattle.crew_run.specs.declared.gate.Gate as gate
 use Rattle.crew_run.specs.Crews.{CanTell}
 use Rattle.edge_io.specs.Names.{OfTold}
-use Rattle.machine_text.specs.declared.machine.Machine.{Machine}
+use Rattle.machine_text.specs.{declared.machine.Machine.Machine, Machines.default_machine, Machines.ports_of}
 use Rattle.machine_text.specs.Machines as machine_text
-use Rattle.machine_text.specs.Machines.{default_machine, ports_of}
-use Rattle.call_steps.specs.Outcome.{Turns}
-use Rattle.call_steps.specs.Passing.{placed}
-use Rattle.net_defs.specs.declared.netlist.Netlist.{Netlist}
-use Rattle.net_defs.specs.declared.stimulus.Stimulus.{Stimulus}
-use Rattle.cmd_words.specs.declared.command.Command.{Command}
+use Rattle.call_steps.specs.{Outcome.Turns, Passing.placed}
+use Rattle.net_defs.specs.declared.{netlist.Netlist.Netlist, stimulus.Stimulus.Stimulus}
+use Rattle.cmd_words.specs.declared.command.{Command.Command, RunWords.RunWords}
 use Rattle.cmd_words.specs.declared.command.Command.TheVariants as command
-use Rattle.cmd_words.specs.declared.command.RunWords.{RunWords}
 use Rattle.image_defs.specs.declared.file.ImageFile.{ImageFile}
 use Rattle.image_file.specs.Ranges as image_file
 use Rattle.limits.specs.declared.TheConstants.{MAX_WORKERS}
 use Rattle.refusals.specs.declared.status.Status.{Status}
-use Rattle.yse_commands.specs.Ends.{MayWrite}
-use Rattle.stim_text.specs.declared.lanes.Lanes.{Lanes}
 use Rattle.yse_commands.specs.Told.{TellsTurns, lanes_turns, large_turns, run_turns, wrote_at}
-use Rattle.yse_commands.specs.Traced.{AreLanesOfFiles, AreOfFiles}
+use Rattle.yse_commands.specs.{Ends.MayWrite, Traced.AreLanesOfFiles, Traced.AreOfFiles}
+use Rattle.stim_text.specs.declared.lanes.Lanes.{Lanes}
 
 -- each gate that a worker may use is there, and can be told of all turns
 abbrev pub AllCanTell : {G : Type 0} → gate.Ghosts G → List (Option G) → Type 0

@@ -1,9 +1,8 @@
 -- What the words of a call ask for, as far as the clauses of a whole call speak of it.
 use Rattle.std.specs.Prelude.{ℕ, List, [], ◌∷◌, ◌++◌, Option, Some, None}
 use Rattle.std.specs.Option.{option_to_list}
-use Rattle.cmd_words.specs.declared.command.Command.{Command}
+use Rattle.cmd_words.specs.declared.command.{Command.Command, RunWords.RunWords}
 use Rattle.cmd_words.specs.declared.command.Command.TheVariants as command
-use Rattle.cmd_words.specs.declared.command.RunWords.{RunWords}
 
 -- the files that a command reads, in the order in which it does
 abbrev pub files_of : Command → List (List ℕ)

@@ -2,11 +2,9 @@
 
 ghost use Rattle.std.specs.Prelude.{◌≡◌, IfOk, None};
 ghost use Rattle.edge_io.specs.Writing.{joined};
-ghost use Rattle.net_defs.specs.Loops.{AreRanks};
-ghost use Rattle.net_defs.specs.Valid.{IsValid, IsValidStimulus, IsValidTiming};
+ghost use Rattle.net_defs.specs.{Loops.AreRanks, Valid.IsValid, Valid.IsValidStimulus, Valid.IsValidTiming};
 ghost use Rattle.cmd_words.specs.Forms.{IsRunInRange};
-ghost use Rattle.yse_commands.specs.Outputs.{CanWrite};
-ghost use Rattle.yse_commands.specs.Refusals.{FilesFollow, outcome_of};
+ghost use Rattle.yse_commands.specs.{Outputs.CanWrite, Refusals.FilesFollow, Refusals.outcome_of};
 ghost use Rattle.yse_commands.specs.commands.Cover.{ExpectedCover, IsCoverage, WritesCoverage};
 ghost use Rattle.call_steps.specs.Files.{AfterStimulus};
 

@@ -2,14 +2,12 @@
 
 ghost use Rattle.std.specs.Prelude.{◌≡◌, All, IfOk, IfSome, None};
 ghost use Rattle.edge_io.specs.Writing.{joined};
-ghost use Rattle.net_defs.specs.Loops.{AreRanks};
 ghost use Rattle.net_defs.specs.Valid.{IsFault, IsValid, IsValidStimulus, IsValidTiming};
+ghost use Rattle.net_defs.specs.Loops.{AreRanks};
 ghost use Rattle.cmd_words.specs.Forms.{IsRunInRange};
-ghost use Rattle.yse_commands.specs.Outputs.{CanWrite};
-ghost use Rattle.yse_commands.specs.Refusals.{FilesFollow, outcome_of};
-ghost use Rattle.call_steps.specs.Checks.{After, HasFewSignals};
 ghost use Rattle.yse_commands.specs.commands.Fault.{AfterListed, ExpectedFault, IsFaultList, listed_or_all};
-ghost use Rattle.call_steps.specs.Files.{AfterFaultList};
+ghost use Rattle.yse_commands.specs.{Outputs.CanWrite, Refusals.FilesFollow, Refusals.outcome_of};
+ghost use Rattle.call_steps.specs.{Checks.After, Checks.HasFewSignals, Files.AfterFaultList};
 
 use crate::output::Output;
 use cmd_words::RunWords;

@@ -1,9 +1,7 @@
 //! `help`: what a command is called with and what it prints, or the same of all in brief.
 
 ghost use Rattle.std.specs.Prelude.{[], IfOk, None};
-ghost use Rattle.yse_commands.specs.Outputs.{CanWrite};
-ghost use Rattle.yse_commands.specs.Refusals.{outcome_of};
-ghost use Rattle.yse_commands.specs.commands.Help.{ExpectedHelp};
+ghost use Rattle.yse_commands.specs.{Outputs.CanWrite, Refusals.outcome_of, commands.Help.ExpectedHelp};
 
 use crate::output::Output;
 use cmd_words::Topic;

@@ -4,10 +4,7 @@ ghost use Rattle.std.specs.Prelude.{[], ◌≤◌, IfOk, Option, length};
 ghost use Rattle.limits.specs.declared.TheConstants.{MAX_LARGE_CYCLES, MAX_LARGE_GATES, MAX_WORKERS};
 ghost use Rattle.machine_run.specs.Visits.{AreInPlace};
 ghost use Rattle.call_steps.specs.Outcome.{Turns};
-ghost use Rattle.yse_commands.specs.Outputs.{CanWrite};
-ghost use Rattle.yse_commands.specs.Refusals.{outcome_of, written_by};
-ghost use Rattle.yse_commands.specs.Told.{TellsTurns};
-ghost use Rattle.yse_commands.specs.Visited.{AllCanTell};
+ghost use Rattle.yse_commands.specs.{Outputs.CanWrite, Refusals.outcome_of, Refusals.written_by, Told.TellsTurns, Visited.AllCanTell};
 ghost use Rattle.yse_commands.specs.commands.Large.{ExpectedLarge};
 
 use crate::output::Output;

@@ -2,9 +2,7 @@
 
 ghost use Rattle.std.specs.Prelude.{◌≡◌, IfOk, None};
 ghost use Rattle.cmd_words.specs.Forms.{IsRunInRange};
-ghost use Rattle.yse_commands.specs.Outputs.{CanWrite};
-ghost use Rattle.yse_commands.specs.Refusals.{FilesFollow, outcome_of};
-ghost use Rattle.yse_commands.specs.commands.Run.{EndsAfter, ExpectedOrder};
+ghost use Rattle.yse_commands.specs.{Outputs.CanWrite, Refusals.FilesFollow, Refusals.outcome_of, commands.Run.EndsAfter, commands.Run.ExpectedOrder};
 ghost use Rattle.call_steps.specs.Passing.{AfterOrderFile};
 
 use crate::output::Output;

@@ -7,12 +7,8 @@ ghost use Rattle.edge_io.specs.Writing.{Writes};
 ghost use Rattle.limits.specs.declared.TheConstants.{MAX_WORKERS};
 ghost use Rattle.machine_run.specs.Visits.{AreInPlace};
 ghost use Rattle.stim_text.specs.Lanes.{AreLanes};
-ghost use Rattle.yse_commands.specs.Outputs.{CanEnd, lanes_bytes};
-ghost use Rattle.yse_commands.specs.Refusals.{MayTake};
-ghost use Rattle.yse_commands.specs.Telling.{Comes};
-ghost use Rattle.yse_commands.specs.Told.{TellsTurns, lanes_turns};
-ghost use Rattle.yse_commands.specs.Visited.{AllCanTell};
-ghost use Rattle.yse_commands.specs.commands.Pack.{AreLaneTraces, ExpectedPack};
+ghost use Rattle.yse_commands.specs.{Outputs.CanEnd, Outputs.lanes_bytes, Refusals.MayTake, Telling.Comes, Told.TellsTurns, Told.lanes_turns};
+ghost use Rattle.yse_commands.specs.{Visited.AllCanTell, commands.Pack.AreLaneTraces, commands.Pack.ExpectedPack};
 
 use crate::output::{Output, WrittenLanes};
 use cmd_words::RunWords;

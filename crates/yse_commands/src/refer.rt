@@ -1,12 +1,9 @@
 //! `refer`: the trace of the reference simulation.
 
 ghost use Rattle.std.specs.Prelude.{[], ◌≡◌, IfOk, None};
-ghost use Rattle.net_defs.specs.Loops.{IsOrder};
-ghost use Rattle.net_defs.specs.Valid.{IsValid, IsValidStimulus, IsValidTiming};
+ghost use Rattle.net_defs.specs.{Loops.IsOrder, Valid.IsValid, Valid.IsValidStimulus, Valid.IsValidTiming};
 ghost use Rattle.cmd_words.specs.Forms.{IsRunInRange};
-ghost use Rattle.yse_commands.specs.Outputs.{CanWrite, CanPrint};
-ghost use Rattle.yse_commands.specs.code.Printed.{ArePrinted};
-ghost use Rattle.yse_commands.specs.Refusals.{FilesFollow, outcome_of};
+ghost use Rattle.yse_commands.specs.{Outputs.CanWrite, Outputs.CanPrint, code.Printed.ArePrinted, Refusals.FilesFollow, Refusals.outcome_of};
 ghost use Rattle.yse_commands.specs.commands.Run.{ExpectedRefer, KeepsTrace};
 
 use crate::output::{Output, Trace};

@@ -1,9 +1,7 @@
 //! `show`: the canonical text of a netlist.
 
 ghost use Rattle.std.specs.Prelude.{◌≡◌, IfOk, None};
-ghost use Rattle.yse_commands.specs.Outputs.{CanWrite};
-ghost use Rattle.yse_commands.specs.Refusals.{FilesFollow, outcome_of};
-ghost use Rattle.yse_commands.specs.commands.Show.{ExpectedShow};
+ghost use Rattle.yse_commands.specs.{Outputs.CanWrite, Refusals.FilesFollow, Refusals.outcome_of, commands.Show.ExpectedShow};
 
 use crate::output::Output;
 use edge_io::Files;

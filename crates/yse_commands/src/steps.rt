@@ -8,13 +8,9 @@ ghost use Rattle.net_defs.specs.Trace.{IsTrace};
 ghost use Rattle.stim_text.specs.Orders.{IsValidOrder};
 ghost use Rattle.cmd_words.specs.Forms.{IsRunInRange};
 ghost use Rattle.limits.specs.declared.TheConstants.{MAX_WORKERS};
-ghost use Rattle.call_steps.specs.Designs.{Feeds, IsRunnable};
-ghost use Rattle.call_steps.specs.Outcome.{telling};
-ghost use Rattle.yse_commands.specs.Orders.{EndsInOrder};
+ghost use Rattle.call_steps.specs.{Designs.Feeds, Designs.IsRunnable, Outcome.telling};
 ghost use Rattle.yse_commands.specs.Outputs.{trace_bytes, run_bytes, CanPrint, CanWrite};
-ghost use Rattle.yse_commands.specs.Refusals.{ended_with};
-ghost use Rattle.yse_commands.specs.Told.{TellsTurns, run_turns};
-ghost use Rattle.yse_commands.specs.Visited.{AllCanTell};
+ghost use Rattle.yse_commands.specs.{Orders.EndsInOrder, Refusals.ended_with, Told.TellsTurns, Told.run_turns, Visited.AllCanTell};
 
 use crate::output::{Ending, Output, Trace, Written};
 use cmd_words::RunWords;

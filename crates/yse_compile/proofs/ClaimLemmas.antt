@@ -3,22 +3,15 @@ use Rattle.std.proofs.Common.{◌≡◌, ◌∙◌, ℕ, ◌<◌, List, [], leng
 use Rattle.std.proofs.lemmas.List.{ext_get_or, length-map}
 use Rattle.net_defs.specs.declared.timing.Timing.{Timing}
 use Rattle.node_defs.specs.declared.items.NodeNet.{NodeNet}
-use Rattle.plan_defs.specs.declared.plan.Homes.{Homes}
-use Rattle.plan_defs.specs.Homes.{ports_of}
-use Rattle.plan_defs.specs.Slots.{slot_of}
+use Rattle.plan_defs.specs.{declared.plan.Homes.Homes, Homes.ports_of, Slots.slot_of}
 use Rattle.switch_set.proofs.lemmas.SameLemmas.{same_slots}
-use Rattle.image_defs.specs.Places.{Each, item_slots}
-use Rattle.image_defs.specs.Matches.{claims_of, Matches}
-use Rattle.image_defs.specs.declared.file.Claims.{Claims}
-use Rattle.image_defs.specs.declared.file.PortClaims.{PortClaims}
-use Rattle.image_defs.specs.Claimed.{lists_of, HasClaims}
+use Rattle.image_defs.specs.{Places.Each, Places.item_slots, Matches.claims_of, Matches.Matches, declared.file.Claims.Claims}
+use Rattle.image_defs.specs.{declared.file.PortClaims.PortClaims, Claimed.lists_of, Claimed.HasClaims}
 use Rattle.image_check.proofs.ClaimLemmas.{claims_there}
 use Rattle.image_file.specs.Ranges.{tables_of}
-use Rattle.image_build.specs.PortItems.{IsAt, ArePortItems, ArePlanClaims}
-use Rattle.image_build.specs.Built.{IsBuilt}
-use Rattle.yse_compile.specs.declared.compiler.Compiled.{Compiled}
+use Rattle.image_build.specs.{PortItems.IsAt, PortItems.ArePortItems, PortItems.ArePlanClaims, Built.IsBuilt}
+use Rattle.yse_compile.specs.{declared.compiler.Compiled.Compiled, Claims.IsPlaced, Claims.AreClaimsOf}
 use Rattle.node_map.specs.Words.{HasWords}
-use Rattle.yse_compile.specs.Claims.{IsPlaced, AreClaimsOf}
 
 module _ (nodes : NodeNet) (homes : Homes) (slots : List ℕ) where
   one_port : (p : ℕ) (xs ys : List ℕ) → ArePortItems nodes homes slots p xs → ArePortItems nodes homes slots p ys → xs ≡ ys

@@ -2,26 +2,16 @@
 use Rattle.std.proofs.Common.{◌≡◌, ◌∙◌, ◌⊎◌, inl, inr, ℕ, ◌<◌, ◌≤◌, length, ap, subst, arith, sym, refl}
 use Rattle.std.proofs.lemmas.Bool.{cases_lt, cases_order}
 use Rattle.machine_text.specs.declared.machine.Machine.{Machine}
-use Rattle.net_defs.specs.declared.netlist.Netlist.{Netlist}
-use Rattle.net_defs.specs.declared.timing.Timing.{Timing}
-use Rattle.node_defs.specs.declared.items.NodeNet.{NodeNet}
-use Rattle.node_defs.specs.Order.{AreItems}
-use Rattle.node_defs.specs.Same.{AreSameItems}
-use Rattle.plan_defs.specs.declared.plan.Homes.{Homes}
-use Rattle.plan_defs.specs.declared.plan.Plan.{Plan}
-use Rattle.plan_defs.specs.Picks.{ArePicked, FindsNoPort, HasTooManyNodes}
-use Rattle.plan_defs.specs.Slots.{IsFirstFitPlan}
+use Rattle.net_defs.specs.declared.{netlist.Netlist.Netlist, timing.Timing.Timing}
+use Rattle.node_defs.specs.{declared.items.NodeNet.NodeNet, Order.AreItems, Same.AreSameItems}
 use Rattle.plan_defs.specs.Tables.{UsesTable, UsesTables, FitsTables, slot_limit, table_limit}
+use Rattle.plan_defs.specs.{declared.plan.Homes.Homes, declared.plan.Plan.Plan, Picks.ArePicked, Picks.FindsNoPort, Picks.HasTooManyNodes, Slots.IsFirstFitPlan}
 use Rattle.slot_plan.specs.Refusals.{IsCrowded, IsLong}
 use Rattle.switch_set.proofs.lemmas.SameLemmas.{one_lists}
-use Rattle.yse_compile.specs.Chosen.{HomesFit}
-use Rattle.yse_compile.specs.declared.compiler.CompNo.{CompNo}
 use Rattle.yse_compile.specs.declared.compiler.CompNo.TheVariants.{Bits, Nodes, Slots, Functions}
-use Rattle.yse_compile.specs.Designs.{IsAcyclic, DesignFits}
-use Rattle.yse_compile.specs.Compiled.{IsRight, IsOverfull}
+use Rattle.yse_compile.specs.{Chosen.HomesFit, declared.compiler.CompNo.CompNo, Designs.IsAcyclic, Designs.DesignFits, Compiled.IsRight, Compiled.IsOverfull}
 use Rattle.image_check.proofs.lemmas.KnownLemmas.{first_or_all}
-use Rattle.yse_compile.proofs.lemmas.SamePlans.{plan_kept}
-use Rattle.yse_compile.proofs.lemmas.SameTables.{tables_few}
+use Rattle.yse_compile.proofs.lemmas.{SamePlans.plan_kept, SameTables.tables_few}
 
 -- ---- items at their homes have a plan that fits, or are refused
 

@@ -1,23 +1,15 @@
 -- The items of a machine have homes, or a memory finds no port, or the nodes are too many.
 use Rattle.std.proofs.Common.{◌≡◌, ◌∙◌, ◌⊎◌, inl, inr, ℕ, zero, suc, ◌+◌, ◌-◌, ◌%◌, ◌<◌, ◌≤◌, List, [], ◌∷◌, ◌++◌, length, get_or, set, replicate, refl, sym, ap, subst, arith}
-use Rattle.std.specs.Prelude.{Some, slice_get}
-use Rattle.std.specs.List.{sum}
-use Rattle.std.proofs.lemmas.Bool.{cases_lt, cases_eq}
-use Rattle.std.proofs.lemmas.Nat.{mod_below}
-use Rattle.std.proofs.Math.Numerals.{add-one}
-use Rattle.std.proofs.Math.Seq.{get_or-append_seam}
+use Rattle.std.proofs.{lemmas.Bool.cases_lt, lemmas.Bool.cases_eq, lemmas.Nat.mod_below, Math.Numerals.add-one, Math.Seq.get_or-append_seam}
+use Rattle.std.specs.{Prelude.Some, Prelude.slice_get, List.sum}
 use Rattle.list_laws.proofs.Members.{member_at}
-use Rattle.machine_text.specs.declared.machine.Limited.TheVariants.{Nodes, Bits}
-use Rattle.machine_text.specs.declared.machine.Machine.{Machine}
+use Rattle.machine_text.specs.declared.machine.{Limited.TheVariants.Nodes, Limited.TheVariants.Bits, Machine.Machine}
 use Rattle.machine_text.specs.Machines.{IsValid}
-use Rattle.node_defs.specs.declared.items.Item.{Item}
 use Rattle.node_defs.specs.declared.items.Item.TheVariants.{Input, BlockBit, Node, Latch}
-use Rattle.node_defs.specs.declared.items.NodeBlock.{NodeBlock}
-use Rattle.node_defs.specs.declared.items.NodeNet.{NodeNet}
+use Rattle.node_defs.specs.declared.items.{Item.Item, NodeBlock.NodeBlock, NodeNet.NodeNet}
 use Rattle.node_defs.specs.WellFormed.{IsWellFormed, IsComputed}
-use Rattle.plan_defs.specs.declared.plan.Homes.{Homes}
-use Rattle.plan_defs.specs.Lists.{IsLeastFree}
 use Rattle.plan_defs.specs.Picks.{bits_of, node_count, node_room, IsInTurn, HasPickedHome, ArePicked, FindsNoPort, HasTooManyNodes}
+use Rattle.plan_defs.specs.{declared.plan.Homes.Homes, Lists.IsLeastFree}
 use Rattle.home_pick.specs.code.Rooms.{limits_of, LacksBits, IsMostLeft, AreFilled, IsSpent, AreTurned, homes_at, AreItemPorts}
 use Rattle.home_pick.proofs.FillLemmas.{filled_none, filled_more, none_found, left_none, left_more, bits_read, some_bits}
 use Rattle.home_pick.proofs.HomeLemmas.{picked_are, ports_more, computed_last, node_room_left, source_first}

@@ -1,61 +1,32 @@
 -- There is an image of items at their homes in their plan, with its claims: each part of its making, in lists of any
 -- length.
 use Rattle.std.proofs.Common.{◌≡◌, ◌∙◌, ◌⊎◌, inl, inr, ℕ, zero, suc, ◌<◌, ◌≤◌, List, [], ◌∷◌, ◌++◌, length, map, take, get_or, refl, sym, ap, subst, arith, add-one, true, false}
-use Rattle.std.specs.Prelude.{Some, slice_get}
-use Rattle.std.specs.List.{All}
-use Rattle.std.proofs.lemmas.Bool.{cases_eq, cases_lt}
 use Rattle.std.proofs.lemmas.List.{take_all, length_push, get_or_append_left, get_or_push}
-use Rattle.std.proofs.lemmas.List.Elements.{All-nil, All-push}
-use Rattle.std.proofs.lemmas.List.Quantifiers.{all_pairs_push}
+use Rattle.std.proofs.lemmas.{Bool.cases_eq, Bool.cases_lt, List.Elements.All-nil, List.Elements.All-push, List.Quantifiers.all_pairs_push}
 use Rattle.std.proofs.lemmas.Option.{slice_get_within, slice_get-get_or}
-use Rattle.list_laws.proofs.Members.{each, each_push, member_at}
-use Rattle.list_laws.proofs.Places.{seam_at}
-use Rattle.list_laws.proofs.Ranges.{last_or}
-use Rattle.func_table.specs.declared.table.Table.{Table}
-use Rattle.func_table.specs.Entries.{AreAlike, AreOther}
-use Rattle.func_table.specs.Shelf.{AreDifferent}
+use Rattle.std.specs.{Prelude.Some, Prelude.slice_get, List.All}
+use Rattle.list_laws.proofs.{Members.each, Members.each_push, Members.member_at, Places.seam_at, Ranges.last_or}
+use Rattle.func_table.specs.{declared.table.Table.Table, Entries.AreAlike, Entries.AreOther, Shelf.AreDifferent}
 use Rattle.func_table.proofs.EntryLemmas.{same_table}
-use Rattle.net_defs.specs.declared.timing.Timing.{Timing}
-use Rattle.net_defs.specs.Valid.{IsValidTiming}
-use Rattle.node_defs.specs.declared.items.Item.{Item}
+use Rattle.net_defs.specs.{declared.timing.Timing.Timing, Valid.IsValidTiming}
 use Rattle.node_defs.specs.declared.items.Item.TheVariants.{Input, BlockBit, Node, Latch}
-use Rattle.node_defs.specs.declared.items.NodeNet.{NodeNet}
-use Rattle.node_defs.specs.WellFormed.{column_count, IsComputed, NamesParts}
+use Rattle.node_defs.specs.{declared.items.Item.Item, declared.items.NodeNet.NodeNet, WellFormed.column_count, WellFormed.IsComputed, WellFormed.NamesParts}
 use Rattle.node_map.specs.Words.{HasWords}
-use Rattle.plan_defs.specs.declared.plan.Homes.{Homes}
-use Rattle.plan_defs.specs.declared.plan.Plan.{Plan}
-use Rattle.plan_defs.specs.declared.switch.Switch.{Switch}
-use Rattle.plan_defs.specs.Homes.{home_of, host_of, ports_of}
-use Rattle.plan_defs.specs.Slots.{slot_of}
-use Rattle.plan_defs.specs.Switches.{IsSwitch}
+use Rattle.plan_defs.specs.{declared.plan.Homes.Homes, declared.plan.Plan.Plan, declared.switch.Switch.Switch, Homes.home_of, Homes.host_of, Homes.ports_of}
+use Rattle.plan_defs.specs.{Slots.slot_of, Switches.IsSwitch}
 use Rattle.plan_defs.proofs.lemmas.PlanLemmas.{one_at_home}
-use Rattle.image_defs.specs.declared.image.Task.{Task}
-use Rattle.image_defs.specs.declared.image.Task.TheVariants.{Eval, Hold}
-use Rattle.image_defs.specs.declared.image.BlockWork.{BlockWork}
-use Rattle.image_defs.specs.declared.image.InColumn.{InColumn}
-use Rattle.image_defs.specs.declared.image.Work.{Work}
-use Rattle.image_defs.specs.declared.image.Work.TheVariants.{Logic, Array, Host}
-use Rattle.image_defs.specs.declared.image.PortImage.{PortImage}
-use Rattle.image_defs.specs.declared.image.Image.{Image}
-use Rattle.image_defs.specs.Places.{Each}
-use Rattle.image_defs.specs.Matches.{claims_of}
-use Rattle.image_defs.specs.declared.file.Claims.{Claims}
-use Rattle.image_defs.specs.declared.file.PortClaims.{PortClaims}
-use Rattle.image_defs.specs.Claimed.{lists_of}
-use Rattle.image_check.proofs.lemmas.KnownLemmas.{known_both, known_less, known_member}
-use Rattle.image_check.proofs.lemmas.MatchKnown.{alike_known}
+use Rattle.image_defs.specs.declared.image.{Task.Task, Task.TheVariants.Eval, Task.TheVariants.Hold, BlockWork.BlockWork, InColumn.InColumn, Work.Work}
+use Rattle.image_defs.specs.declared.image.{Work.TheVariants.Logic, Work.TheVariants.Array, Work.TheVariants.Host, PortImage.PortImage, Image.Image}
+use Rattle.image_defs.specs.{Places.Each, Matches.claims_of, declared.file.Claims.Claims, declared.file.PortClaims.PortClaims, Claimed.lists_of}
+use Rattle.image_check.proofs.lemmas.{KnownLemmas.known_both, KnownLemmas.known_less, KnownLemmas.known_member, MatchKnown.alike_known}
 use Rattle.image_file.specs.Ranges.{tables_of}
-use Rattle.image_build.specs.PortItems.{IsAt, ArePortItems, ArePlanClaims}
-use Rattle.image_build.specs.Plans.{IsPlanned}
 use Rattle.image_build.specs.Built.{ArePortMemories, IsBuilt, link_in, link_out}
 use Rattle.image_build.specs.code.Layouts.{source_of, feed_source, AreMadeFor, IsTaskFor, block_for, AreBlocks, IsBitFor, IsInputFor, IsWorkFor}
 use Rattle.image_build.specs.code.Plans.{IsInputItem, Shelves, AreFirstTasks, AreFirstPorts}
-use Rattle.image_build.proofs.BuiltLemmas.{laid_out_is_built}
-use Rattle.image_build.proofs.GrowLemmas.{made_next, made_all}
-use Rattle.image_build.proofs.MemoryExists.{numbers_there}
+use Rattle.image_build.specs.{PortItems.IsAt, PortItems.ArePortItems, PortItems.ArePlanClaims, Plans.IsPlanned}
+use Rattle.image_build.proofs.{BuiltLemmas.laid_out_is_built, GrowLemmas.made_next, GrowLemmas.made_all, MemoryExists.numbers_there}
 use Rattle.image_build.proofs.MemoryLemmas.{blocks_more, numbers_low}
-use Rattle.image_build.proofs.PlannedLemmas.{at_place, computed_at, input_at_host}
-use Rattle.image_build.proofs.PortLemmas.{ports_none, ports_more}
+use Rattle.image_build.proofs.{PlannedLemmas.at_place, PlannedLemmas.computed_at, PlannedLemmas.input_at_host, PortLemmas.ports_none, PortLemmas.ports_more}
 use Rattle.image_build.proofs.TaskLemmas.{tasks_more}
 use Rattle.yse_compile.proofs.lemmas.SwitchExists.{listed_by_slot}
 

@@ -1,29 +1,20 @@
 -- The items of a valid netlist have as many inputs as the netlist.
 use Rattle.std.proofs.Common.{◌≡◌, ◌≢◌, ◌∙◌, inl, inr, ℕ, zero, suc, ◌+◌, ◌<◌, ◌≤◌, Bool, true, false, List, [], ◌∷◌, get_or, cond, refl, sym, ap, arith, length}
+use Rattle.std.proofs.lemmas.{Option.slice_get_within, Option.get_or_from_slice_get, List.Sums.count_by-le-length, List.Sums.sum_by-cons, Bool.false≢true}
 use Rattle.std.specs.Prelude.{Option, Some, None, slice_get}
 use Rattle.std.specs.List.{count_by}
-use Rattle.std.proofs.lemmas.Option.{slice_get_within, get_or_from_slice_get}
-use Rattle.std.proofs.lemmas.List.Sums.{count_by-le-length, sum_by-cons}
-use Rattle.std.proofs.lemmas.Bool.{false≢true}
 use Rattle.list_laws.proofs.Members.{member_at}
-use Rattle.net_defs.specs.declared.netlist.Netlist.{Netlist}
-use Rattle.net_defs.specs.declared.netlist.Signal.{Signal}
-use Rattle.net_defs.specs.declared.netlist.Driver.{Driver}
+use Rattle.net_defs.specs.declared.{netlist.Netlist.Netlist, netlist.Signal.Signal, netlist.Driver.Driver, timing.Timing.Timing}
+use Rattle.net_defs.specs.{Steps.is_late, Valid.IsValid, Valid.is_input as is_input_driver, Valid.input_count}
 use Rattle.net_defs.specs.declared.netlist.Driver.TheVariants as driver
-use Rattle.net_defs.specs.declared.timing.Timing.{Timing}
-use Rattle.net_defs.specs.Steps.{is_late}
-use Rattle.net_defs.specs.Valid.{IsValid, is_input as is_input_driver, input_count}
 use Rattle.func_table.specs.declared.table.Table.{Table}
-use Rattle.node_defs.specs.declared.items.Item.{Item}
 use Rattle.node_defs.specs.declared.items.Item.TheVariants.{Input, BlockBit, Node, Latch}
-use Rattle.node_defs.specs.declared.items.ItemName.{ItemName}
-use Rattle.node_defs.specs.declared.items.NodeNet.{NodeNet}
 use Rattle.node_defs.specs.Items.{own, IsNamed, IsItem, IsItemOf}
 use Rattle.node_defs.specs.Order.{class_of, Key, key_of, Before, AreItems}
+use Rattle.node_defs.specs.declared.items.{Item.Item, ItemName.ItemName, NodeNet.NodeNet}
 use Rattle.node_defs.specs.WellFormed.{is_input, column_count}
 use Rattle.node_defs.proofs.lemmas.NameLemmas.{name_at as name_of, name_there, NamedItem, named_item}
-use Rattle.plan_defs.proofs.lemmas.CountLemmas.{few_partners}
-use Rattle.plan_defs.proofs.lemmas.WellFormedLemmas.{well_formed, is_column}
+use Rattle.plan_defs.proofs.lemmas.{CountLemmas.few_partners, WellFormedLemmas.well_formed, WellFormedLemmas.is_column}
 
 -- ---- lists whose members that pass come first
 

@@ -2,8 +2,7 @@
 use Rattle.std.proofs.Common.{◌⊎◌, inl, inr, ℕ, zero, suc, ◌<◌, List, [], ◌∷◌, ◌++◌, subst}
 use Rattle.std.proofs.Math.Numerals.{add-one}
 use Rattle.image_check.proofs.lemmas.KnownLemmas.{IsKnown, first_or_all}
-use Rattle.plan_defs.specs.Lists.{IsLeastFree}
-use Rattle.plan_defs.specs.code.Lists.{ListsBelow}
+use Rattle.plan_defs.specs.{Lists.IsLeastFree, code.Lists.ListsBelow}
 use Rattle.plan_defs.proofs.ListLemmas.{listed_none, listed_more, listed_not}
 
 -- the least number below the end that is not ruled out, or all are

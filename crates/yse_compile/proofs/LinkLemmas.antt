@@ -3,21 +3,14 @@ use Rattle.std.proofs.Common.{◌≡◌, ◌∙◌, ℕ, length, map, sym, ap, s
 use Rattle.std.proofs.lemmas.Option.{slice_get_within}
 use Rattle.list_laws.proofs.Members.{member_at}
 use Rattle.event_defs.specs.Linked.{AreLinkedAlike}
-use Rattle.net_defs.specs.declared.netlist.Netlist.{Netlist}
-use Rattle.net_defs.specs.declared.timing.Timing.{Timing}
-use Rattle.node_defs.specs.Order.{AreItems}
-use Rattle.node_defs.specs.Same.{AreSameItems}
-use Rattle.plan_defs.specs.declared.plan.Plan.{Plan}
-use Rattle.plan_defs.specs.declared.switch.PortLinks.{PortLinks}
-use Rattle.plan_defs.specs.Homes.{ports_of}
-use Rattle.plan_defs.specs.Slots.{IsFirstFitPlan}
+use Rattle.net_defs.specs.declared.{netlist.Netlist.Netlist, timing.Timing.Timing}
+use Rattle.node_defs.specs.{Order.AreItems, Same.AreSameItems}
+use Rattle.plan_defs.specs.{declared.plan.Plan.Plan, declared.switch.PortLinks.PortLinks, Homes.ports_of, Slots.IsFirstFitPlan}
 use Rattle.plan_defs.specs.Switches.{AreSends, AreReceipts, IsSwitch}
-use Rattle.image_defs.specs.declared.image.PortImage.{PortImage}
-use Rattle.image_defs.specs.Places.{IsPort}
+use Rattle.image_defs.specs.{declared.image.PortImage.PortImage, Places.IsPort}
 use Rattle.image_build.specs.Built.{IsBuilt, link_out, link_in, AreLinksOf}
 use Rattle.yse_compile.specs.declared.compiler.Compiled.{Compiled}
-use Rattle.yse_compile.proofs.lemmas.SamePlans.{plan_kept}
-use Rattle.yse_compile.proofs.SameSwitches.{same_sends, same_receipts}
+use Rattle.yse_compile.proofs.{lemmas.SamePlans.plan_kept, SameSwitches.same_sends, SameSwitches.same_receipts}
 
 -- items in their first-fit plan, with the switch's settings and the image that is built of them
 pub record IsLinked (net : Netlist) (timing : Timing) (design : Compiled) : Type 0 where

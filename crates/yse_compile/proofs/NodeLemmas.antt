@@ -1,7 +1,6 @@
 -- The same items have as many nodes.
 use Rattle.std.proofs.Common.{◌≡◌, arith}
-use Rattle.node_defs.specs.declared.items.NodeNet.{NodeNet}
-use Rattle.node_defs.specs.Same.{AreSameItems}
+use Rattle.node_defs.specs.{declared.items.NodeNet.NodeNet, Same.AreSameItems}
 use Rattle.plan_defs.specs.Picks.{node_count}
 
 pub nodes_kept : (one other : NodeNet) → AreSameItems one other → node_count one ≡ node_count other

@@ -1,36 +1,20 @@
 -- A netlist's compiled images at the same homes are one, and so are their claims.
 use Rattle.std.proofs.Common.{◌≡◌, ◌∙◌, ℕ, List, length, map, Some, slice_get, sym, ap, subst, arith}
-use Rattle.std.proofs.lemmas.List.{length-map}
-use Rattle.std.proofs.lemmas.Option.{slice_get-map}
+use Rattle.std.proofs.lemmas.{List.length-map, Option.slice_get-map}
 use Rattle.list_laws.proofs.Options.{one_some}
 use Rattle.std.specs.Option.{option_map}
 use Rattle.event_defs.specs.Linked.{AreLinkedAlike}
-use Rattle.net_defs.specs.declared.netlist.Netlist.{Netlist}
-use Rattle.net_defs.specs.declared.timing.Timing.{Timing}
-use Rattle.node_defs.specs.declared.items.NodeNet.{NodeNet}
-use Rattle.node_defs.specs.Same.{AreSameItems}
-use Rattle.node_defs.specs.WellFormed.{column_count}
+use Rattle.net_defs.specs.declared.{netlist.Netlist.Netlist, timing.Timing.Timing}
+use Rattle.node_defs.specs.{declared.items.NodeNet.NodeNet, Same.AreSameItems, WellFormed.column_count}
 use Rattle.node_map.specs.Words.{HasWords}
-use Rattle.plan_defs.specs.declared.plan.Homes.{Homes}
-use Rattle.plan_defs.specs.declared.plan.Plan.{Plan}
-use Rattle.plan_defs.specs.Slots.{IsFirstFitPlan}
-use Rattle.image_defs.specs.declared.image.Work.{Work}
-use Rattle.image_defs.specs.declared.image.Work.TheVariants.{Logic, Array, Host}
-use Rattle.image_defs.specs.declared.image.Image.{Image}
-use Rattle.image_defs.specs.Places.{Each}
-use Rattle.image_defs.specs.declared.file.Claims.{Claims}
-use Rattle.image_defs.specs.declared.file.PortClaims.{PortClaims}
-use Rattle.image_defs.specs.Claimed.{lists_of}
+use Rattle.plan_defs.specs.{declared.plan.Homes.Homes, declared.plan.Plan.Plan, Slots.IsFirstFitPlan}
+use Rattle.image_defs.specs.declared.image.{Work.Work, Work.TheVariants.Logic, Work.TheVariants.Array, Work.TheVariants.Host, Image.Image}
+use Rattle.image_defs.specs.{Places.Each, declared.file.Claims.Claims, declared.file.PortClaims.PortClaims, Claimed.lists_of}
 use Rattle.image_file.specs.Ranges.{tables_of}
-use Rattle.image_build.specs.PortItems.{ArePlanClaims}
-use Rattle.image_build.specs.Built.{IsBuilt, IsOrdered}
-use Rattle.image_build.proofs.OneImage.{IsBuiltBy, AreAll, one_built}
-use Rattle.image_build.proofs.PlacedLemmas.{same_by}
-use Rattle.yse_compile.specs.declared.compiler.Compiled.{Compiled}
-use Rattle.yse_compile.specs.Claims.{AreClaimsOf}
-use Rattle.yse_compile.proofs.ClaimLemmas.{one_claims}
-use Rattle.yse_compile.proofs.ImageExists.{words_decide}
-use Rattle.yse_compile.proofs.lemmas.SamePlans.{plan_kept}
+use Rattle.image_build.specs.{PortItems.ArePlanClaims, Built.IsBuilt, Built.IsOrdered}
+use Rattle.image_build.proofs.{OneImage.IsBuiltBy, OneImage.AreAll, OneImage.one_built, PlacedLemmas.same_by}
+use Rattle.yse_compile.specs.{declared.compiler.Compiled.Compiled, Claims.AreClaimsOf}
+use Rattle.yse_compile.proofs.{ClaimLemmas.one_claims, ImageExists.words_decide, lemmas.SamePlans.plan_kept}
 
 -- claims of the same lists are the same
 same_claims : (one other : Claims) → lists_of one ≡ lists_of other → one ≡ other

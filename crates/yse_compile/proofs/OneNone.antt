@@ -1,7 +1,6 @@
 -- One memory is the first that finds no port.
 use Rattle.std.proofs.Common.{◌≡◌, ◌∙◌, inl, inr, ℕ, ◌+◌, ◌<◌, ◌≤◌, List, take, get_or, sym, ap, subst, arith}
-use Rattle.std.proofs.lemmas.Bool.{cases_lt, cases_order}
-use Rattle.std.proofs.lemmas.List.{get_or-take, length-take-le}
+use Rattle.std.proofs.lemmas.{Bool.cases_lt, Bool.cases_order, List.get_or-take, List.length-take-le}
 use Rattle.machine_text.specs.declared.machine.Machine.{Machine}
 use Rattle.node_defs.specs.declared.items.NodeNet.{NodeNet}
 use Rattle.plan_defs.specs.Picks.{bits_of, bit_limit, bits_left, LacksRoom, AreHoused, FindsNoPort}

@@ -1,16 +1,12 @@
 -- Of the refusals which say that a machine is too small, one is right.
 use Rattle.std.proofs.Common.{◌≡◌, ◌∙◌, ℕ, ap}
 use Rattle.machine_text.specs.declared.machine.Machine.{Machine}
-use Rattle.net_defs.specs.declared.netlist.Netlist.{Netlist}
-use Rattle.net_defs.specs.declared.timing.Timing.{Timing}
-use Rattle.node_defs.specs.declared.items.NodeNet.{NodeNet}
-use Rattle.node_defs.specs.Order.{AreItems}
-use Rattle.plan_defs.specs.declared.plan.Homes.{Homes}
-use Rattle.plan_defs.specs.Picks.{ArePicked}
-use Rattle.yse_compile.specs.declared.compiler.CompNo.{CompNo}
+use Rattle.net_defs.specs.declared.{netlist.Netlist.Netlist, timing.Timing.Timing}
+use Rattle.node_defs.specs.{declared.items.NodeNet.NodeNet, Order.AreItems}
+use Rattle.plan_defs.specs.{declared.plan.Homes.Homes, Picks.ArePicked}
 use Rattle.yse_compile.specs.declared.compiler.CompNo.TheVariants.{Loop, Bits, Slots, Functions, Memory, Nodes}
 use Rattle.yse_compile.specs.Designs.{LacksBits, LacksNodes, LacksSlots, LacksFunctions}
-use Rattle.yse_compile.specs.Compiled.{IsRight, IsOverfull}
+use Rattle.yse_compile.specs.{declared.compiler.CompNo.CompNo, Compiled.IsRight, Compiled.IsOverfull}
 
 -- refusals of three numbers, and of two
 bits_same : (a b k m l n : ℕ) → a ≡ b → k ≡ m → l ≡ n → Bits a k l ≡ Bits b m n

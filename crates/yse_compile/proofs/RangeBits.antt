@@ -1,30 +1,20 @@
 -- The memories of an array port have no more bits than the port holds.
 use Rattle.std.proofs.Common.{inl, inr, ◌≡◌, ◌∙◌, ℕ, zero, suc, ◌+◌, ◌-◌, ◌*◌, ◌^◌, ◌<◌, ◌≤◌, ◌==◌, Bool, true, false, List, [], ◌∷◌, ◌++◌, length, get_or, Some, slice_get, refl, sym, ap, subst, mul_comm, arith}
+use Rattle.std.proofs.{lemmas.Bool.cases_lt, lemmas.Bool.eqb-true, lemmas.Bool.eqb-false, Math.Numerals.add-one}
+use Rattle.std.proofs.lemmas.{List.Sums.sum_by-cons, List.Sums.sum_by_push, Option.slice_get_within, Option.get_or_from_slice_get}
 use Rattle.std.specs.List.{sum_by}
-use Rattle.std.proofs.lemmas.Bool.{cases_lt, eqb-true, eqb-false}
-use Rattle.std.proofs.Math.Numerals.{add-one}
-use Rattle.std.proofs.lemmas.List.Sums.{sum_by-cons, sum_by_push}
-use Rattle.std.proofs.lemmas.Option.{slice_get_within, get_or_from_slice_get}
 use Rattle.list_laws.proofs.Members.{member_at}
 use Rattle.limits.specs.declared.TheConstants.{MAX_ARRAY_BITS}
-use Rattle.machine_text.specs.declared.machine.Limited.TheVariants.{Bits}
-use Rattle.machine_text.specs.declared.machine.Machine.{Machine}
-use Rattle.machine_text.specs.Machines.{IsValid}
+use Rattle.machine_text.specs.{declared.machine.Limited.TheVariants.Bits, declared.machine.Machine.Machine, Machines.IsValid}
 use Rattle.machine_text.proofs.lemmas.LimitLemmas.{limit_in_range}
-use Rattle.node_defs.specs.declared.items.NodeBlock.{NodeBlock}
-use Rattle.node_defs.specs.declared.items.NodeNet.{NodeNet}
-use Rattle.plan_defs.specs.declared.plan.Homes.{Homes}
-use Rattle.plan_defs.specs.code.Lists.{ListsBelow}
+use Rattle.node_defs.specs.declared.items.{NodeBlock.NodeBlock, NodeNet.NodeNet}
 use Rattle.plan_defs.specs.Picks.{bits_of, bits_before, bit_limit, AreHoused}
+use Rattle.plan_defs.specs.{declared.plan.Homes.Homes, code.Lists.ListsBelow}
 use Rattle.plan_defs.proofs.ListLemmas.{listed_none, listed_more, listed_not, listed_all}
 use Rattle.switch_set.proofs.lemmas.SameLemmas.{one_lists}
 use Rattle.home_pick.proofs.FillLemmas.{bits_at, bits_more, bits_read}
-use Rattle.image_defs.specs.declared.image.BlockWork.{BlockWork}
-use Rattle.image_defs.specs.declared.image.LinkIn.{LinkIn}
-use Rattle.image_defs.specs.declared.image.OutBit.{OutBit}
-use Rattle.image_defs.specs.declared.image.Work.{Work}
-use Rattle.image_defs.specs.declared.image.Work.TheVariants.{Logic, Array, Host}
-use Rattle.image_defs.specs.declared.image.Image.{Image}
+use Rattle.image_defs.specs.declared.image.{BlockWork.BlockWork, LinkIn.LinkIn, OutBit.OutBit, Work.Work}
+use Rattle.image_defs.specs.declared.image.{Work.TheVariants.Logic, Work.TheVariants.Array, Work.TheVariants.Host, Image.Image}
 use Rattle.image_defs.specs.Places.{blocks_of}
 use Rattle.image_file.specs.Ranges as ranges
 use Rattle.image_file.specs.Ranges.{block_bits}

@@ -1,37 +1,23 @@
 -- A built image with its claims is within the ranges of image texts.
 use Rattle.std.proofs.Common.{if◌then◌else◌, ◌≡◌, ◌∙◌, ℕ, suc, ◌+◌, ◌-◌, ◌^◌, ◌<◌, ◌≤◌, Bool, true, false, List, [], ◌∷◌, length, Some, slice_get, refl, sym, ap, subst, arith}
+use Rattle.std.proofs.lemmas.{List.length-map, List.Sums.sum_by-cons, Option.slice_get_within}
 use Rattle.std.specs.List.{count_by}
-use Rattle.std.proofs.lemmas.List.{length-map}
-use Rattle.std.proofs.lemmas.List.Sums.{sum_by-cons}
-use Rattle.std.proofs.lemmas.Option.{slice_get_within}
 use Rattle.limits.specs.declared.TheConstants.{MAX_SIGNALS, MAX_ARRAY, MAX_FUNCTIONS, MAX_ARRAY_BITS}
-use Rattle.machine_text.specs.declared.machine.Machine.{Machine}
-use Rattle.machine_text.specs.Machines.{IsValid}
+use Rattle.machine_text.specs.{declared.machine.Machine.Machine, Machines.IsValid}
 use Rattle.net_defs.specs.declared.timing.Timing.{Timing}
-use Rattle.node_defs.specs.declared.items.Item.{Item}
+use Rattle.node_defs.specs.{declared.items.Item.Item, WellFormed.column_count}
 use Rattle.node_defs.specs.WellFormed as nodes
-use Rattle.node_defs.specs.WellFormed.{column_count}
 use Rattle.plan_defs.specs.Homes.{AreHomes, home_of, host_of, ports_of}
-use Rattle.plan_defs.specs.Picks.{AreHoused}
-use Rattle.plan_defs.specs.Tables.{Fits}
-use Rattle.image_defs.specs.declared.image.LinkIn.{LinkIn}
-use Rattle.image_defs.specs.declared.image.Work.{Work}
-use Rattle.image_defs.specs.declared.image.Work.TheVariants.{Logic, Array, Host}
-use Rattle.image_defs.specs.declared.image.PortImage.{PortImage}
-use Rattle.image_defs.specs.Places.{Each, IsPort, blocks_of}
-use Rattle.image_defs.specs.Matches.{IsClaim, Implements}
-use Rattle.image_defs.specs.declared.file.Claims.{Claims}
-use Rattle.image_defs.specs.declared.file.PortClaims.{PortClaims}
+use Rattle.plan_defs.specs.{Picks.AreHoused, Tables.Fits}
+use Rattle.image_defs.specs.declared.image.{LinkIn.LinkIn, Work.Work, Work.TheVariants.Logic, Work.TheVariants.Array, Work.TheVariants.Host}
+use Rattle.image_defs.specs.{declared.image.PortImage.PortImage, Places.Each, Places.IsPort, Places.blocks_of, Matches.IsClaim, Matches.Implements}
+use Rattle.image_defs.specs.declared.file.{Claims.Claims, PortClaims.PortClaims}
 use Rattle.image_check.proofs.ClaimLemmas.{claims_there}
 use Rattle.image_lines.specs.Ranges.{IsSmall}
 use Rattle.image_file.specs.Ranges.{is_array, is_array_port, tables_of, bits_of, IsInRanges}
-use Rattle.image_build.specs.PortItems.{IsAt}
-use Rattle.image_build.specs.Built.{IsBuilt, IsOrdered}
-use Rattle.yse_compile.specs.declared.compiler.Compiled.{Compiled}
-use Rattle.yse_compile.specs.Claims.{AreClaimsOf}
-use Rattle.yse_compile.proofs.RangeLines.{all_of_each, lines_in_range}
-use Rattle.yse_compile.proofs.RangeTables.{tables_few}
-use Rattle.yse_compile.proofs.RangeBits.{blocks_few, bits_few}
+use Rattle.image_build.specs.{PortItems.IsAt, Built.IsBuilt, Built.IsOrdered}
+use Rattle.yse_compile.specs.{declared.compiler.Compiled.Compiled, Claims.AreClaimsOf}
+use Rattle.yse_compile.proofs.{RangeLines.all_of_each, RangeLines.lines_in_range, RangeTables.tables_few, RangeBits.blocks_few, RangeBits.bits_few}
 
 -- ---- counts
 

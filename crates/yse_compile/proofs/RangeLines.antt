@@ -1,27 +1,19 @@
 -- The lines of a file are in their ranges, where its image is well formed and has few parts.
 use Rattle.std.proofs.Common.{◌≡◌, ◌∙◌, ℕ, suc, ◌^◌, ◌<◌, ◌≤◌, ◌&&◌, true, List, [], ◌∷◌, ◌++◌, length, map, get_or, Some, slice_get, refl, ap, All, arith, nat_le}
-use Rattle.std.specs.Prelude.{option_map}
-use Rattle.std.specs.List.{zip}
-use Rattle.std.proofs.lemmas.Bool.{le-leb, and_from}
 use Rattle.std.proofs.lemmas.List.Elements.{All-nil, All-cons, All-append, All-map}
-use Rattle.std.proofs.lemmas.Option.{slice_get-map, slice_get_within, slice_get-get_or}
+use Rattle.std.proofs.lemmas.{Bool.le-leb, Bool.and_from, Option.slice_get-map, Option.slice_get_within, Option.slice_get-get_or}
+use Rattle.std.specs.{Prelude.option_map, List.zip}
 use Rattle.limits.specs.declared.TheConstants.{MAX_SLOTS, MAX_UNITS, MAX_SIGNALS, MAX_PORTS, MAX_ADDRESS_BITS, MAX_WORD_BITS}
 use Rattle.list_laws.proofs.Members.{all_flat_of}
-use Rattle.image_defs.specs.declared.image.Source.{Source}
-use Rattle.image_defs.specs.declared.image.Source.TheVariants.{Own, Got, Const}
-use Rattle.image_defs.specs.declared.image.Task.{Task}
-use Rattle.image_defs.specs.declared.image.Task.TheVariants.{Eval, Hold}
-use Rattle.image_defs.specs.declared.image.BlockWork.{BlockWork}
-use Rattle.image_defs.specs.declared.image.Work.{Work}
-use Rattle.image_defs.specs.declared.image.Work.TheVariants.{Logic, Array, Host}
-use Rattle.image_defs.specs.declared.image.PortImage.{PortImage}
 use Rattle.image_defs.specs.Places.{Each, IsPort, item_slots, task_slot, blocks_of}
 use Rattle.image_defs.specs.WellFormed.{IsThere, IsTask, IsBlock, IsWork, IsLinkOut, IsLinkIn, ReceivesFrom, IsPortImage, IsWellFormed}
-use Rattle.image_defs.specs.declared.file.PortClaims.{PortClaims}
-use Rattle.image_defs.specs.declared.file.ImageFile.{ImageFile}
+use Rattle.image_defs.specs.declared.image.{Source.Source, Source.TheVariants.Own, Source.TheVariants.Got, Source.TheVariants.Const, Task.Task}
+use Rattle.image_defs.specs.declared.image.{Task.TheVariants.Eval, Task.TheVariants.Hold, BlockWork.BlockWork, Work.Work}
+use Rattle.image_defs.specs.declared.image.{Work.TheVariants.Logic, Work.TheVariants.Array, Work.TheVariants.Host, PortImage.PortImage}
+use Rattle.image_defs.specs.declared.file.{PortClaims.PortClaims, ImageFile.ImageFile}
+use Rattle.image_lines.specs.Ranges.{IsSmall, IsSmallSource, IsSmallTask, IsInRange}
 use Rattle.image_lines.specs.declared.line.Line.{Line}
 use Rattle.image_lines.specs.declared.line.Line.TheVariants as line
-use Rattle.image_lines.specs.Ranges.{IsSmall, IsSmallSource, IsSmallTask, IsInRange}
 use Rattle.image_file.specs.Files.{sizes_of, kind_of, claimed, work_lines, port_lines, all_port_lines, file_lines}
 use Rattle.image_file.specs.Ranges.{tables_of}
 use Rattle.node_map.specs.Words.{HasWords}

@@ -1,34 +1,19 @@
 -- A logic port has no more tables than its nodes use.
 use Rattle.std.proofs.Common.{◌≡◌, ◌≢◌, ◌∙◌, ◌⊎◌, inl, inr, ℕ, ◌<◌, ◌≤◌, List, length, get_or, Some, slice_get, sym, ap, subst, arith}
-use Rattle.std.proofs.lemmas.Bool.{cases_lt}
-use Rattle.std.proofs.lemmas.List.{length-map}
-use Rattle.std.proofs.lemmas.Option.{slice_get_within, get_or_from_slice_get}
+use Rattle.std.proofs.lemmas.{Bool.cases_lt, List.length-map, Option.slice_get_within, Option.get_or_from_slice_get}
 use Rattle.limits.specs.declared.TheConstants.{MAX_FUNCTIONS}
-use Rattle.list_laws.proofs.Places.{place_of}
-use Rattle.list_laws.proofs.Members.{member_at}
-use Rattle.list_laws.proofs.Options.{one_some}
-use Rattle.machine_text.specs.declared.machine.Limited.TheVariants.{Functions}
-use Rattle.machine_text.specs.declared.machine.Machine.{Machine}
-use Rattle.machine_text.specs.Machines.{IsValid}
+use Rattle.list_laws.proofs.{Places.place_of, Members.member_at, Options.one_some}
+use Rattle.machine_text.specs.{declared.machine.Limited.TheVariants.Functions, declared.machine.Machine.Machine, Machines.IsValid}
 use Rattle.machine_text.proofs.lemmas.LimitLemmas.{limit_in_range}
-use Rattle.func_table.specs.declared.table.Table.{Table}
-use Rattle.func_table.specs.Entries.{AreAlike, entry_of}
-use Rattle.node_defs.specs.declared.items.Item.{Item}
+use Rattle.func_table.specs.{declared.table.Table.Table, Entries.AreAlike, Entries.entry_of}
 use Rattle.node_defs.specs.declared.items.Item.TheVariants.{Input, BlockBit, Node, Latch}
-use Rattle.node_defs.specs.declared.items.NodeNet.{NodeNet}
-use Rattle.plan_defs.specs.declared.plan.Homes.{Homes}
-use Rattle.plan_defs.specs.Homes.{home_of}
-use Rattle.plan_defs.specs.Tables.{UsesTable, FitsTables}
+use Rattle.node_defs.specs.declared.items.{Item.Item, NodeNet.NodeNet}
+use Rattle.plan_defs.specs.{declared.plan.Homes.Homes, Homes.home_of, Tables.UsesTable, Tables.FitsTables}
 use Rattle.plan_defs.proofs.lemmas.CountLemmas.{few_partners}
-use Rattle.image_defs.specs.declared.image.Source.{Source}
-use Rattle.image_defs.specs.declared.image.Task.{Task}
-use Rattle.image_defs.specs.declared.image.Task.TheVariants.{Eval}
-use Rattle.image_defs.specs.declared.image.LinkIn.{LinkIn}
-use Rattle.image_defs.specs.declared.image.Work.{Work}
-use Rattle.image_defs.specs.declared.image.Work.TheVariants.{Logic, Array, Host}
-use Rattle.image_defs.specs.declared.image.Image.{Image}
-use Rattle.image_defs.specs.Places.{item_slots, task_slot}
 use Rattle.image_defs.specs.Matches.{claims_of, IsClaim, Implements, TaskImplements}
+use Rattle.image_defs.specs.declared.image.{Source.Source, Task.Task, Task.TheVariants.Eval, LinkIn.LinkIn, Work.Work}
+use Rattle.image_defs.specs.declared.image.{Work.TheVariants.Logic, Work.TheVariants.Array, Work.TheVariants.Host, Image.Image}
+use Rattle.image_defs.specs.Places.{item_slots, task_slot}
 use Rattle.image_file.specs.Ranges.{tables_of}
 use Rattle.image_build.specs.Built.{Evaluates, AreInOrderOfUse, IsOrdered}
 

@@ -1,22 +1,17 @@
 -- The better homes of the same items are the same, and so are the crossings.
 use Rattle.std.proofs.Common.{◌≡◌, ◌∙◌, inl, inr, ℕ, zero, suc, ◌+◌, ◌==◌, if◌then◌else◌, List, length, get_or, refl, sym, ap, arith}
-use Rattle.std.specs.Prelude.{max, nat_lt, slice_get}
+use Rattle.std.proofs.{lemmas.Bool.cases_lt, lemmas.Option.slice_get_past, Math.Path.fun_ext}
 use Rattle.std.specs.List.{filter, fold, sum_by, range_with_len}
-use Rattle.std.proofs.lemmas.Bool.{cases_lt}
-use Rattle.std.proofs.lemmas.Option.{slice_get_past}
-use Rattle.std.proofs.Math.Path.{fun_ext}
+use Rattle.std.specs.Prelude.{max, nat_lt, slice_get}
 use Rattle.list_laws.proofs.Members.{member_at}
 use Rattle.machine_text.specs.declared.machine.Machine.{Machine}
-use Rattle.node_defs.specs.declared.items.NodeNet.{NodeNet}
-use Rattle.node_defs.specs.Same.{AreSameItems}
-use Rattle.plan_defs.specs.declared.plan.Homes.{Homes}
+use Rattle.node_defs.specs.{declared.items.NodeNet.NodeNet, Same.AreSameItems}
 use Rattle.plan_defs.specs.Homes.{home_of, block_home, host_of, ports_of}
-use Rattle.plan_defs.specs.Picks.{node_count, nodes_before}
-use Rattle.home_pick.specs.Bags.{flag, where_at}
+use Rattle.plan_defs.specs.{declared.plan.Homes.Homes, Picks.node_count, Picks.nodes_before}
 use Rattle.home_pick.specs.Better.{load_at, most_load, fair_share, bound_of, most_at, has_room, first_least, best_port, settled, node_numbers, pass, passes, IsBetter}
 use Rattle.home_pick.specs.Crossings.{times_in, item_uses, maybe_item_uses, uses_by, memory_uses, block_uses, uses_at, readers_at, crossings, moved}
-use Rattle.yse_compile.proofs.NodeLemmas.{nodes_kept}
-use Rattle.yse_compile.proofs.lemmas.SameItems.{carried, partner}
+use Rattle.home_pick.specs.Bags.{flag, where_at}
+use Rattle.yse_compile.proofs.{NodeLemmas.nodes_kept, lemmas.SameItems.carried, lemmas.SameItems.partner}
 
 -- ---- the definitions over what they ask of the items
 

@@ -1,19 +1,12 @@
 -- The switch of the same items is the same.
 use Rattle.std.proofs.Common.{◌≡◌, ◌∙◌, ℕ, zero, suc, ◌<◌, List, [], ◌∷◌, map, refl, sym, ap, subst, arith}
-use Rattle.std.specs.Prelude.{Some, slice_get, option_map}
-use Rattle.std.specs.List.{Contains}
-use Rattle.std.specs.List.Sorted.{IsStrictlyIncreasing}
 use Rattle.std.proofs.lemmas.Option.{slice_get-map, get_or_from_slice_get}
+use Rattle.std.specs.{Prelude.Some, Prelude.slice_get, Prelude.option_map, List.Contains, List.Sorted.IsStrictlyIncreasing}
 use Rattle.list_laws.proofs.Members.{member_at, listed}
 use Rattle.image_defs.proofs.lemmas.PlaceLemmas.{rises}
-use Rattle.node_defs.specs.declared.items.NodeNet.{NodeNet}
-use Rattle.node_defs.specs.Same.{AreSameItems}
-use Rattle.plan_defs.specs.declared.plan.Homes.{Homes}
-use Rattle.plan_defs.specs.declared.switch.Sending.{Sending}
-use Rattle.plan_defs.specs.declared.switch.Receipt.{Receipt}
-use Rattle.plan_defs.specs.Lists.{Lists}
-use Rattle.plan_defs.specs.Readers.{IsReader, IsReaderList}
-use Rattle.plan_defs.specs.Switches.{AreSends, AreReceipts}
+use Rattle.node_defs.specs.{declared.items.NodeNet.NodeNet, Same.AreSameItems}
+use Rattle.plan_defs.specs.{declared.plan.Homes.Homes, declared.switch.Sending.Sending, declared.switch.Receipt.Receipt, Lists.Lists}
+use Rattle.plan_defs.specs.{Readers.IsReader, Readers.IsReaderList, Switches.AreSends, Switches.AreReceipts}
 use Rattle.yse_compile.proofs.lemmas.SamePlans.{reader_kept}
 
 -- ---- lists in ascending order with the same members

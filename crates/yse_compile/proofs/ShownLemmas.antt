@@ -1,21 +1,12 @@
 -- An image that gives the items' values shows the cells of the reference simulation.
 use Rattle.std.proofs.Common.{◌≡◌, ◌∙◌, ℕ, ◌*◌, ◌<◌, ◌≤◌, List, [], length, get_or, Some, slice_get, sym, mul-le-mul_right, mul_comm, arith}
-use Rattle.std.proofs.lemmas.List.{get_or-map}
-use Rattle.std.proofs.lemmas.Option.{slice_get-get_or}
-use Rattle.logic_four.specs.declared.V4.TheVariants.{Undef}
-use Rattle.logic_four.specs.Values.{value_at}
-use Rattle.net_defs.specs.declared.netlist.Netlist.{Netlist}
-use Rattle.net_defs.specs.declared.timing.Timing.{Timing}
-use Rattle.net_defs.specs.declared.stimulus.Stimulus.{Stimulus}
-use Rattle.net_defs.specs.Time.{cycle_count}
-use Rattle.net_defs.specs.Steps.{State}
+use Rattle.std.proofs.lemmas.{List.get_or-map, Option.slice_get-get_or}
+use Rattle.logic_four.specs.{declared.V4.TheVariants.Undef, Values.value_at}
+use Rattle.net_defs.specs.{declared.netlist.Netlist.Netlist, declared.timing.Timing.Timing, declared.stimulus.Stimulus.Stimulus, Time.cycle_count, Steps.State}
 use Rattle.net_defs.specs.Trace.{cells_of}
-use Rattle.node_defs.specs.declared.items.NodeNet.{NodeNet}
-use Rattle.node_defs.specs.Items.{own, IsNamed}
-use Rattle.node_defs.specs.Order.{AreItems}
+use Rattle.node_defs.specs.{declared.items.NodeNet.NodeNet, Items.own, Items.IsNamed, Order.AreItems}
 use Rattle.node_defs.specs.Values.{AreItemValues, AreReferenceValues, HaveOneRun}
-use Rattle.image_defs.specs.declared.image.Image.{Image}
-use Rattle.image_defs.specs.Frames.{shown}
+use Rattle.image_defs.specs.{declared.image.Image.Image, Frames.shown}
 use Rattle.yse_compile.specs.Compiled.{ShowsReference}
 
 no_state : State

@@ -1,25 +1,14 @@
 -- Which homes a compiled design has, and when a design fits a machine by a choice of homes.
 use Rattle.std.specs.Prelude.{◌≡◌, ◌⊎◌, length, true, false}
 use Rattle.machine_text.specs.declared.machine.Machine.{Machine}
-use Rattle.net_defs.specs.declared.homes.HomeChoice.{HomeChoice}
-use Rattle.net_defs.specs.declared.homes.HomeChoice.TheVariants.{Plain, Better}
-use Rattle.net_defs.specs.declared.netlist.Netlist.{Netlist}
-use Rattle.net_defs.specs.declared.timing.Timing.{Timing}
-use Rattle.node_defs.specs.declared.items.NodeNet.{NodeNet}
-use Rattle.node_defs.specs.Order.{AreItems}
-use Rattle.plan_defs.specs.declared.plan.Homes.{Homes}
-use Rattle.plan_defs.specs.declared.plan.Plan.{Plan}
-use Rattle.plan_defs.specs.Homes.{AreHomes}
-use Rattle.plan_defs.specs.Picks.{ArePicked, AreHoused}
-use Rattle.plan_defs.specs.Slots.{IsFirstFitPlan}
-use Rattle.plan_defs.specs.Switches.{IsSwitch}
-use Rattle.plan_defs.specs.Tables.{Fits}
-use Rattle.home_pick.specs.Better.{IsBetter}
-use Rattle.home_pick.specs.Crossings.{crossings}
+use Rattle.net_defs.specs.declared.homes.HomeChoice.{HomeChoice, TheVariants.Plain, TheVariants.Better}
+use Rattle.net_defs.specs.declared.{netlist.Netlist.Netlist, timing.Timing.Timing}
+use Rattle.node_defs.specs.{declared.items.NodeNet.NodeNet, Order.AreItems}
+use Rattle.plan_defs.specs.{declared.plan.Homes.Homes, declared.plan.Plan.Plan, Homes.AreHomes, Picks.ArePicked, Picks.AreHoused, Slots.IsFirstFitPlan}
+use Rattle.plan_defs.specs.{Switches.IsSwitch, Tables.Fits}
+use Rattle.home_pick.specs.{Better.IsBetter, Crossings.crossings}
 use Rattle.image_build.specs.Built.{IsBuilt}
-use Rattle.yse_compile.specs.declared.compiler.Compiled.{Compiled}
-use Rattle.yse_compile.specs.declared.choose.Chosen.{Chosen}
-use Rattle.yse_compile.specs.Designs.{IsAcyclic, DesignFits}
+use Rattle.yse_compile.specs.{declared.compiler.Compiled.Compiled, declared.choose.Chosen.Chosen, Designs.IsAcyclic, Designs.DesignFits}
 
 -- ---- designs, whichever homes they have
 

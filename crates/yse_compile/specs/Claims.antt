@@ -2,18 +2,12 @@
 use Rattle.std.specs.Prelude.{◌≡◌, ℕ, map}
 use Rattle.net_defs.specs.declared.timing.Timing.{Timing}
 use Rattle.node_defs.specs.WellFormed.{IsWellFormed}
-use Rattle.plan_defs.specs.Homes.{AreHomes}
-use Rattle.plan_defs.specs.Slots.{slot_of, IsFirstFitPlan}
-use Rattle.plan_defs.specs.Switches.{IsSwitch}
-use Rattle.image_defs.specs.declared.image.PortImage.{PortImage}
-use Rattle.image_defs.specs.Places.{Each, IsPort, item_slots}
-use Rattle.image_defs.specs.Matches.{claims_of, Matches}
-use Rattle.image_defs.specs.declared.file.Claims.{Claims}
-use Rattle.image_defs.specs.Claimed.{lists_of, HasClaims}
+use Rattle.plan_defs.specs.{Homes.AreHomes, Slots.slot_of, Slots.IsFirstFitPlan, Switches.IsSwitch}
+use Rattle.image_defs.specs.{declared.image.PortImage.PortImage, Places.Each, Places.IsPort, Places.item_slots, Matches.claims_of, Matches.Matches}
+use Rattle.image_defs.specs.{declared.file.Claims.Claims, Claimed.lists_of, Claimed.HasClaims}
 use Rattle.image_file.specs.Ranges.{tables_of}
 use Rattle.node_map.specs.Words.{HasWords}
-use Rattle.image_build.specs.PortItems.{ArePlanClaims}
-use Rattle.image_build.specs.Built.{IsBuilt}
+use Rattle.image_build.specs.{PortItems.ArePlanClaims, Built.IsBuilt}
 use Rattle.yse_compile.specs.declared.compiler.Compiled.{Compiled}
 
 -- well-formed items at their homes, in their first-fit plan, with the switch's settings and an image that is

@@ -2,29 +2,17 @@
 use Rattle.std.specs.Prelude.{◌≡◌, ℕ, ◌<◌, ◌≤◌, List, length}
 use Rattle.logic_four.specs.Values.{value_at}
 use Rattle.machine_text.specs.declared.machine.Machine.{Machine}
-use Rattle.net_defs.specs.declared.netlist.Netlist.{Netlist}
-use Rattle.net_defs.specs.declared.timing.Timing.{Timing}
-use Rattle.net_defs.specs.declared.stimulus.Stimulus.{Stimulus}
-use Rattle.net_defs.specs.Time.{cycle_count}
-use Rattle.net_defs.specs.Steps.{State}
-use Rattle.net_defs.specs.Reference.{IsSimulation}
-use Rattle.net_defs.specs.Trace.{cells_of}
+use Rattle.net_defs.specs.{declared.netlist.Netlist.Netlist, declared.timing.Timing.Timing, declared.stimulus.Stimulus.Stimulus, Time.cycle_count, Steps.State}
+use Rattle.net_defs.specs.{Reference.IsSimulation, Trace.cells_of}
 use Rattle.node_defs.specs.Order.{AreItems}
-use Rattle.plan_defs.specs.Picks.{ArePicked}
-use Rattle.plan_defs.specs.Slots.{IsFirstFitPlan}
-use Rattle.plan_defs.specs.Switches.{IsSwitch}
-use Rattle.plan_defs.specs.Tables.{Fits}
-use Rattle.image_defs.specs.declared.image.Image.{Image}
-use Rattle.image_defs.specs.Frames.{shown}
+use Rattle.plan_defs.specs.{Picks.ArePicked, Slots.IsFirstFitPlan, Switches.IsSwitch, Tables.Fits}
+use Rattle.image_defs.specs.{declared.image.Image.Image, Frames.shown}
 use Rattle.image_build.specs.Built.{IsBuilt}
-use Rattle.home_pick.specs.declared.pick.HomeNo.{HomeNo}
-use Rattle.home_pick.specs.declared.pick.HomeNo.TheVariants.{Bits as NoBits, Memory as NoRoom, Nodes as ManyNodes}
-use Rattle.slot_plan.specs.declared.fit.PlanNo.{PlanNo}
-use Rattle.slot_plan.specs.declared.fit.PlanNo.TheVariants.{Slots as ManySlots, Functions as ManyFunctions, Memory as NoMemory}
-use Rattle.yse_compile.specs.declared.compiler.Compiled.{Compiled}
-use Rattle.yse_compile.specs.declared.compiler.CompNo.{CompNo}
+use Rattle.home_pick.specs.declared.pick.HomeNo.{HomeNo, TheVariants.Bits as NoBits, TheVariants.Memory as NoRoom, TheVariants.Nodes as ManyNodes}
+use Rattle.slot_plan.specs.declared.fit.PlanNo.{PlanNo, TheVariants.Slots as ManySlots, TheVariants.Functions as ManyFunctions, TheVariants.Memory as NoMemory}
 use Rattle.yse_compile.specs.declared.compiler.CompNo.TheVariants.{Loop, Bits, Slots, Functions, Memory, Nodes}
 use Rattle.yse_compile.specs.Designs.{IsAcyclic, HasLoop, LacksBits, LacksNodes, LacksSlots, LacksFunctions}
+use Rattle.yse_compile.specs.declared.compiler.{Compiled.Compiled, CompNo.CompNo}
 
 -- these are the netlist's items, their homes on the machine, their first-fit plan, which fits, its switch
 -- and its image

@@ -1,16 +1,10 @@
 -- When a design fits a machine, and why it doesn't.
 use Rattle.std.specs.Prelude.{◌≢◌, ℕ, List}
 use Rattle.machine_text.specs.declared.machine.Machine.{Machine}
-use Rattle.net_defs.specs.declared.netlist.Netlist.{Netlist}
-use Rattle.net_defs.specs.declared.timing.Timing.{Timing}
+use Rattle.net_defs.specs.{declared.netlist.Netlist.Netlist, declared.timing.Timing.Timing, Loops.IsCircle, Loops.IsLoop}
 use Rattle.net_defs.specs.declared.timing.Mode.TheVariants as mode
-use Rattle.net_defs.specs.Loops.{IsCircle, IsLoop}
-use Rattle.node_defs.specs.declared.items.NodeNet.{NodeNet}
-use Rattle.node_defs.specs.Order.{AreItems}
-use Rattle.plan_defs.specs.declared.plan.Homes.{Homes}
-use Rattle.plan_defs.specs.declared.plan.Plan.{Plan}
-use Rattle.plan_defs.specs.Picks.{ArePicked, FindsNoPort, HasTooManyNodes}
-use Rattle.plan_defs.specs.Slots.{IsFirstFitPlan}
+use Rattle.node_defs.specs.{declared.items.NodeNet.NodeNet, Order.AreItems}
+use Rattle.plan_defs.specs.{declared.plan.Homes.Homes, declared.plan.Plan.Plan, Picks.ArePicked, Picks.FindsNoPort, Picks.HasTooManyNodes, Slots.IsFirstFitPlan}
 use Rattle.plan_defs.specs.Tables.{Fits}
 use Rattle.slot_plan.specs.Refusals.{IsLong, IsCrowded}
 

@@ -6,13 +6,11 @@ ghost use Rattle.limits.specs.declared.TheConstants.{MAX_SLOTS};
 ghost use Rattle.machine_text.specs.Machines.{IsValid as IsValidMachine};
 ghost use Rattle.net_defs.specs.declared.homes.HomeChoice.TheVariants.{Plain, Better};
 ghost use Rattle.node_defs.specs.WellFormed.{IsWellFormed};
-ghost use Rattle.plan_defs.specs.Homes.{AreHomes};
-ghost use Rattle.plan_defs.specs.Slots.{IsFirstFitPlan};
-ghost use Rattle.plan_defs.specs.Tables.{Fits};
+ghost use Rattle.plan_defs.specs.{Homes.AreHomes, Slots.IsFirstFitPlan, Tables.Fits};
 ghost use Rattle.slot_plan.specs.Refusals.{IsRight};
 ghost use Rattle.slot_plan.specs.declared.fit.PlanNo.TheVariants as no;
-ghost use Rattle.yse_compile.specs.Chosen.{HomesFit};
 ghost use Rattle.yse_compile.specs.code.Passes.{AreHomesOn, AreHoused, IsBestUnfit, IsFitted};
+ghost use Rattle.yse_compile.specs.Chosen.{HomesFit};
 
 use crate::compiler::Compiled;
 use crate::law::planned_or_refused;

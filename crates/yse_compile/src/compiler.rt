@@ -2,11 +2,8 @@
 
 ghost use Rattle.std.specs.Prelude.{◌≡◌, IfOk, IfErr, OnOk};
 ghost use Rattle.machine_text.specs.Machines.{IsValid as IsValidMachine};
-ghost use Rattle.net_defs.specs.declared.stimulus.Stimulus.{Stimulus};
-ghost use Rattle.net_defs.specs.Valid.{IsValid, IsValidTiming};
-ghost use Rattle.yse_compile.specs.Chosen.{FitsBy, IsChosen};
-ghost use Rattle.yse_compile.specs.Designs.{DesignFits};
-ghost use Rattle.yse_compile.specs.Compiled.{IsCompiled, ShowsReference, IsRight};
+ghost use Rattle.net_defs.specs.{declared.stimulus.Stimulus.Stimulus, Valid.IsValid, Valid.IsValidTiming};
+ghost use Rattle.yse_compile.specs.{Chosen.FitsBy, Chosen.IsChosen, Designs.DesignFits, Compiled.IsCompiled, Compiled.ShowsReference, Compiled.IsRight};
 ghost use Rattle.yse_compile.specs.declared.compiler.CompNo.TheVariants as no;
 
 use crate::choose::{Chosen, fit};

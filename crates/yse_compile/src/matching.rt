@@ -2,24 +2,13 @@
 //! do nothing.
 
 ghost use Rattle.std.specs.Prelude.{ℕ, List as Items, Ok};
-ghost use Rattle.machine_text.specs.declared.machine.Machine.{Machine};
-ghost use Rattle.machine_text.specs.Machines.{IsValid as IsValidMachine};
-ghost use Rattle.net_defs.specs.declared.netlist.Netlist.{Netlist};
-ghost use Rattle.net_defs.specs.declared.timing.Timing.{Timing};
-ghost use Rattle.net_defs.specs.declared.stimulus.Stimulus.{Stimulus};
-ghost use Rattle.net_defs.specs.Valid.{IsValid};
-ghost use Rattle.node_defs.specs.declared.items.NodeNet.{NodeNet};
-ghost use Rattle.node_defs.specs.Order.{AreItems};
-ghost use Rattle.image_defs.specs.declared.image.Image.{Image};
-ghost use Rattle.image_defs.specs.WellFormed.{IsWellFormed};
-ghost use Rattle.image_defs.specs.Matches.{Matches};
-ghost use Rattle.yse_compile.specs.declared.compiler.Compiled.{Compiled};
-ghost use Rattle.yse_compile.specs.Chosen.{IsDesign};
-ghost use Rattle.yse_compile.specs.Compiled.{ShowsReference};
-ghost use Rattle.image_defs.specs.declared.file.Claims.{Claims};
+ghost use Rattle.machine_text.specs.{declared.machine.Machine.Machine, Machines.IsValid as IsValidMachine};
+ghost use Rattle.net_defs.specs.{declared.netlist.Netlist.Netlist, declared.timing.Timing.Timing, declared.stimulus.Stimulus.Stimulus, Valid.IsValid};
+ghost use Rattle.node_defs.specs.{declared.items.NodeNet.NodeNet, Order.AreItems};
+ghost use Rattle.image_defs.specs.{declared.image.Image.Image, WellFormed.IsWellFormed, Matches.Matches, declared.file.Claims.Claims};
+ghost use Rattle.yse_compile.specs.{declared.compiler.Compiled.Compiled, Chosen.IsDesign, Compiled.ShowsReference, Claims.IsPlaced, Claims.AreClaimsOf};
 ghost use Rattle.image_check.specs.Check.{Says};
 ghost use Rattle.image_file.specs.Ranges.{IsInRanges};
-ghost use Rattle.yse_compile.specs.Claims.{IsPlaced, AreClaimsOf};
 
 use crate::inputs::same_inputs;
 use image_defs::law::matched_values;

@@ -3,17 +3,12 @@
 ghost use Rattle.std.specs.Prelude.{◌≡◌, IfOk, IfErr, OnOk};
 ghost use Rattle.home_pick.specs.Refusals.{IsRight as LacksHomes};
 ghost use Rattle.image_build.specs.Built.{IsBuilt};
-ghost use Rattle.machine_text.specs.declared.machine.Machine.{Machine};
-ghost use Rattle.machine_text.specs.Machines.{IsValid as IsValidMachine};
+ghost use Rattle.machine_text.specs.{declared.machine.Machine.Machine, Machines.IsValid as IsValidMachine};
 ghost use Rattle.net_defs.specs.Valid.{IsValid, IsValidTiming};
-ghost use Rattle.node_defs.specs.Order.{AreItems};
-ghost use Rattle.node_defs.specs.WellFormed.{IsWellFormed};
-ghost use Rattle.plan_defs.specs.Switches.{IsSwitch};
-ghost use Rattle.plan_defs.specs.Tables.{Fits};
+ghost use Rattle.node_defs.specs.{Order.AreItems, WellFormed.IsWellFormed};
+ghost use Rattle.plan_defs.specs.{Switches.IsSwitch, Tables.Fits};
 ghost use Rattle.slot_plan.specs.Refusals.{IsRight as LacksPlan};
-ghost use Rattle.yse_compile.specs.Chosen.{FitsEither};
-ghost use Rattle.yse_compile.specs.Compiled.{IsRight};
-ghost use Rattle.yse_compile.specs.Designs.{IsAcyclic};
+ghost use Rattle.yse_compile.specs.{Chosen.FitsEither, Compiled.IsRight, Designs.IsAcyclic};
 ghost use Rattle.yse_compile.specs.code.Passes.{AreHoused, IsPlanned, compiled_of};
 ghost use Rattle.yse_compile.specs.declared.compiler.CompNo.TheVariants as no;
 

@@ -1,51 +1,31 @@
 -- An image is accepted or refused once, whichever numbers the tables of the netlist's items have.
 use Rattle.std.proofs.Common.{◌≡◌, ◌≢◌, ◌∙◌, sym, ap, refl, subst, ◌⊎◌, inl, inr, ℕ, ◌<◌, List, length, Some, None, Ok, Err}
 use Rattle.std.specs.Prelude.{slice_get}
-use Rattle.net_defs.specs.declared.netlist.Netlist.{Netlist}
-use Rattle.net_defs.specs.declared.timing.Timing.{Timing}
-use Rattle.func_table.specs.declared.table.Table.{Table}
-use Rattle.func_table.specs.Entries.{AreAlike, looked_up}
-use Rattle.node_defs.specs.declared.items.Item.{Item}
-use Rattle.node_defs.specs.declared.items.Item.TheVariants as item
-use Rattle.node_defs.specs.declared.items.Feeds.{Feeds}
-use Rattle.node_defs.specs.declared.items.NodeNet.{NodeNet}
-use Rattle.node_defs.specs.Order.{AreItems}
+use Rattle.net_defs.specs.declared.{netlist.Netlist.Netlist, timing.Timing.Timing}
+use Rattle.func_table.specs.{declared.table.Table.Table, Entries.AreAlike, Entries.looked_up}
+use Rattle.node_defs.specs.{declared.items.Item.Item, declared.items.Feeds.Feeds, declared.items.NodeNet.NodeNet, Order.AreItems}
 use Rattle.node_defs.specs.Same.{AreSameItem, AreSameItems, IsSameTable}
-use Rattle.node_defs.specs.WellFormed.{IsWellFormed as IsWellFormedNet, NamesParts, column_count}
-use Rattle.node_defs.specs.declared.items.NodeBlock.{NodeBlock}
+use Rattle.node_defs.specs.{WellFormed.IsWellFormed as IsWellFormedNet, WellFormed.NamesParts, WellFormed.column_count, declared.items.NodeBlock.NodeBlock}
+use Rattle.node_defs.specs.declared.items.Item.TheVariants as item
 use Rattle.node_defs.proofs.lemmas.MemberLemmas.{member_at}
 use Rattle.yse_compile.proofs.lemmas.SameItems.{carried, partner}
 use Rattle.large_run.proofs.TableLemmas.{same_entries}
-use Rattle.image_defs.specs.declared.image.Image.{Image}
-use Rattle.image_defs.specs.declared.image.BlockWork.{BlockWork}
-use Rattle.image_defs.specs.declared.image.LinkIn.{LinkIn}
-use Rattle.image_defs.specs.declared.image.OutBit.{OutBit}
-use Rattle.image_defs.specs.declared.image.PortImage.{PortImage}
-use Rattle.image_defs.specs.declared.image.Task.{Task}
-use Rattle.image_defs.specs.declared.image.Task.TheVariants.{Eval, Hold}
-use Rattle.image_defs.specs.declared.image.Work.{Work}
-use Rattle.image_defs.specs.declared.image.Work.TheVariants.{Logic, Array, Host}
 use Rattle.image_defs.specs.Matches.{BitImplements, ImplementsClaim, Implements, InputImplements, TaskImplements}
-use Rattle.image_check.specs.declared.check.CheckNo.{CheckNo}
-use Rattle.image_check.specs.declared.check.CheckNo.TheVariants as no
-use Rattle.image_defs.specs.declared.file.ImageFile.{ImageFile}
-use Rattle.image_check.specs.Check.{HasAnswer, HasOneAnswer, Says}
-use Rattle.image_file.specs.Files.{image_text}
-use Rattle.image_file.specs.Ranges.{IsInRanges, Reads}
-use Rattle.image_file.specs.Reading.{first_fault}
-use Rattle.image_file.specs.declared.refusal.ImageNo.{ImageNo}
-use Rattle.text_lines.specs.Answers.{IsReader}
 use Rattle.image_defs.specs.Claimed.{lists_of, HasTiming, PlaceMatches, ColumnMatches}
+use Rattle.image_defs.specs.declared.image.{Image.Image, BlockWork.BlockWork, LinkIn.LinkIn, OutBit.OutBit, PortImage.PortImage, Task.Task}
+use Rattle.image_defs.specs.declared.image.{Task.TheVariants.Eval, Task.TheVariants.Hold, Work.Work}
+use Rattle.image_defs.specs.declared.{image.Work.TheVariants.Logic, image.Work.TheVariants.Array, image.Work.TheVariants.Host, file.ImageFile.ImageFile}
+use Rattle.image_check.specs.{declared.check.CheckNo.CheckNo, Check.HasAnswer, Check.HasOneAnswer, Check.Says}
+use Rattle.image_check.specs.declared.check.CheckNo.TheVariants as no
+use Rattle.image_file.specs.{Files.image_text, Ranges.IsInRanges, Ranges.Reads, Reading.first_fault, declared.refusal.ImageNo.ImageNo}
+use Rattle.text_lines.specs.Answers.{IsReader}
 use Rattle.refusals.specs.declared.status.Status.TheVariants as status
 use Rattle.refusals.specs.Lines.{match_line}
-use Rattle.call_steps.specs.Checks.{After}
-use Rattle.call_steps.specs.Outcome.{Outcome, refusal, out_of_memory}
-use Rattle.call_steps.specs.Readings.{Reading}
+use Rattle.call_steps.specs.{Checks.After, Outcome.Outcome, Outcome.refusal, Outcome.out_of_memory, Readings.Reading, Images.IsAccepted, Images.IsImageFileOf}
+use Rattle.call_steps.specs.Files.{AfterImage, AfterMatch}
 use Rattle.yse_commands.specs.commands.Exec.{IsTaken, RunsImage}
-use Rattle.call_steps.specs.Images.{IsAccepted, IsImageFileOf}
 use Rattle.yse_top.proofs.ProperLemmas.{IsCheck, IsOfText, alike, short_passes}
 use Rattle.yse_commands.proofs.lemmas.TracedLemmas.{whole_text}
-use Rattle.call_steps.specs.Files.{AfterImage, AfterMatch}
 
 -- ---- what holds of an item of one list holds of that item of the other
 

@@ -1,23 +1,15 @@
 -- How a call ends, by what its words ask for and what came of the command.
 use Rattle.std.proofs.Common.{◌≡◌, ◌∙◌, sym, ap, refl, subst, inl, inr, ℕ, ◌≤◌, Bool, List, length, take, Option, arith}
 use Rattle.std.proofs.lemmas.List.{length-map, length-take}
-use Rattle.edge_io.specs.Counts.{raised}
-use Rattle.edge_io.specs.declared.counts.FileCounts.{FileCounts}
-use Rattle.cmd_words.specs.declared.command.Command.{Command}
-use Rattle.cmd_words.specs.Forms.{HasForm}
-use Rattle.refusals.specs.declared.refusal.Refusal.{Refusal}
+use Rattle.edge_io.specs.{Counts.raised, declared.counts.FileCounts.FileCounts}
+use Rattle.cmd_words.specs.{declared.command.Command.Command, Forms.HasForm}
+use Rattle.refusals.specs.declared.{refusal.Refusal.Refusal, status.Status.Status}
 use Rattle.refusals.specs.declared.refusal.Refusal.TheVariants as refusal
-use Rattle.refusals.specs.declared.status.Status.{Status}
-use Rattle.yse_commands.specs.Ends.{EndsAs, MayWrite}
-use Rattle.yse_commands.specs.Expected.{Expected}
+use Rattle.yse_commands.specs.{Ends.EndsAs, Ends.MayWrite, Expected.Expected, Refusals.Follows}
 use Rattle.yse_top.specs.Law.{IsProper}
-use Rattle.call_steps.specs.Outcome.{Outcome, Turns, telling}
-use Rattle.call_steps.specs.Readings.{Reading, AreReadings}
-use Rattle.yse_commands.specs.Refusals.{Follows}
-use Rattle.call_steps.specs.Refused.{refused_of}
+use Rattle.call_steps.specs.{Outcome.Outcome, Outcome.Turns, Outcome.telling, Readings.Reading, Readings.AreReadings, Refused.refused_of}
 use Rattle.edge_io.proofs.lemmas.WritingLemmas.{append_known-nil}
-use Rattle.yse_commands.proofs.lemmas.ChainLemmas.{follows_here}
-use Rattle.yse_commands.proofs.lemmas.VisitedLemmas.{refused_writes}
+use Rattle.yse_commands.proofs.lemmas.{ChainLemmas.follows_here, VisitedLemmas.refused_writes}
 
 module _ (names : Option (List ℕ → Bool)) (bytes : Option (List ℕ → List ℕ)) (old new : FileCounts) where
   -- they are of no form

@@ -2,25 +2,16 @@
 use Rattle.std.proofs.Common.{◌≡◌, ◌≢◌, ◌∙◌, ◌↔◌, ◌⊎◌, sym, ap, subst, inl, inr, ℕ, Bool, List, Option, Some, None, take}
 use Rattle.std.specs.Io.KnownBytes.{append_known}
 use Rattle.crew_run.specs.declared.gate.Gate as gate
-use Rattle.edge_io.specs.Counts.{Rose}
-use Rattle.edge_io.specs.Writing.{TakesLine}
-use Rattle.edge_io.specs.declared.counts.FileCounts.{FileCounts}
-use Rattle.cmd_words.specs.Asked.{asked}
-use Rattle.cmd_words.specs.declared.command.Command.{Command}
+use Rattle.edge_io.specs.{Counts.Rose, Writing.TakesLine, declared.counts.FileCounts.FileCounts}
+use Rattle.cmd_words.specs.{Asked.asked, declared.command.Command.Command}
 use Rattle.cmd_words.specs.declared.command.Command.TheVariants as command
-use Rattle.refusals.specs.declared.status.Status.{Status}
+use Rattle.refusals.specs.{declared.status.Status.Status, Lines.write_fault_line}
 use Rattle.refusals.specs.declared.status.Status.TheVariants as status
-use Rattle.yse_top.specs.code.Came.{CameTo}
+use Rattle.yse_top.specs.{code.Came.CameTo, Law.IsProper, Law.TellsWords}
 use Rattle.yse_commands.specs.Ends.{AreToldBy, EndsAs, IsDoneOrMemory, KeepsTaken, MayWrite}
-use Rattle.yse_commands.specs.Expected.{Expected, ExpectedOf}
-use Rattle.yse_commands.specs.Traced.{IsOutputOfFiles}
-use Rattle.yse_commands.specs.Visited.{AreTold, AreTurnsOf, TellsGates}
-use Rattle.yse_top.specs.Law.{IsProper, TellsWords}
-use Rattle.refusals.specs.Lines.{write_fault_line}
-use Rattle.call_steps.specs.Outcome.{Outcome, Turns}
-use Rattle.call_steps.specs.Readings.{Reading}
-use Rattle.yse_commands.proofs.lemmas.TracedLemmas.{AreAsTold, command_told, command_traced}
-use Rattle.yse_commands.proofs.lemmas.VisitedLemmas.{whole_writes}
+use Rattle.yse_commands.specs.{Expected.Expected, Expected.ExpectedOf, Traced.IsOutputOfFiles, Visited.AreTold, Visited.AreTurnsOf, Visited.TellsGates}
+use Rattle.call_steps.specs.{Outcome.Outcome, Outcome.Turns, Readings.Reading}
+use Rattle.yse_commands.proofs.lemmas.{TracedLemmas.AreAsTold, TracedLemmas.command_told, TracedLemmas.command_traced, VisitedLemmas.whole_writes}
 use Rattle.yse_top.proofs.EndLemmas.{absent_kept, completes, fault_rose}
 
 -- what may be written is no such status

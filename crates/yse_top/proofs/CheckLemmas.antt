@@ -2,25 +2,15 @@
 use Rattle.std.proofs.Common.{◌≡◌, ◌∙◌, sym, ap, refl, subst, ◌⊎◌, inl, inr, ℕ, ◌<◌, ◌≤◌, List, Option, Some, None, Ok, Err, arith}
 use Rattle.std.proofs.lemmas.Bool.{cases_lt}
 use Rattle.text_lines.specs.Answers.{IsReader}
-use Rattle.net_defs.specs.declared.homes.HomeChoice.{HomeChoice}
-use Rattle.net_defs.specs.declared.netlist.Netlist.{Netlist}
-use Rattle.net_defs.specs.declared.timing.Timing.{Timing}
-use Rattle.net_defs.specs.declared.stimulus.Stimulus.{Stimulus}
-use Rattle.net_defs.specs.Loops.{IsCircle, IsOrder, OrderOrLoop}
-use Rattle.net_defs.specs.Reference.{HasOneSimulation}
-use Rattle.net_defs.specs.Time.{cycle_count}
-use Rattle.net_defs.specs.Trace.{IsTrace, trace_to}
-use Rattle.machine_text.specs.declared.machine.Machine.{Machine}
-use Rattle.machine_text.specs.Machines.{default_machine, IsValid as IsValidMachine}
-use Rattle.yse_compile.specs.declared.compiler.CompNo.{CompNo}
-use Rattle.yse_compile.specs.Chosen.{FitsBy}
-use Rattle.yse_compile.specs.Compiled.{IsRight, IsOverfull}
-use Rattle.refusals.specs.declared.status.Status.{Status}
+use Rattle.net_defs.specs.declared.{homes.HomeChoice.HomeChoice, netlist.Netlist.Netlist, timing.Timing.Timing, stimulus.Stimulus.Stimulus}
+use Rattle.net_defs.specs.{Loops.IsCircle, Loops.IsOrder, Loops.OrderOrLoop, Reference.HasOneSimulation, Time.cycle_count, Trace.IsTrace, Trace.trace_to}
+use Rattle.machine_text.specs.{declared.machine.Machine.Machine, Machines.default_machine, Machines.IsValid as IsValidMachine}
+use Rattle.yse_compile.specs.{declared.compiler.CompNo.CompNo, Chosen.FitsBy, Compiled.IsRight, Compiled.IsOverfull}
+use Rattle.refusals.specs.{declared.status.Status.Status, Lines.loop_line, Lines.overfull_line}
 use Rattle.refusals.specs.declared.status.Status.TheVariants as status
 use Rattle.call_steps.specs.Checks.{ReadsAs, HasNoLoop, HasRoom, IsWithin}
-use Rattle.yse_top.specs.Law.{AreAlike}
-use Rattle.refusals.specs.Lines.{loop_line, overfull_line}
 use Rattle.call_steps.specs.Outcome.{Outcome, refusal}
+use Rattle.yse_top.specs.Law.{AreAlike}
 use Rattle.yse_top.proofs.ProperLemmas.{IsCheck, IsOfText, alike}
 
 -- ---- readers of texts: each reads as one thing, or has a first fault

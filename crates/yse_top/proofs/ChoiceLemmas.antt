@@ -1,27 +1,15 @@
 -- A design that fits by a choice has homes that the choice gives it.
 use Rattle.std.proofs.Common.{◌≡◌, ◌⊎◌, inl, inr, ℕ, Bool, true, false, [], refl, subst}
-use Rattle.machine_text.specs.declared.machine.Machine.{Machine}
-use Rattle.machine_text.specs.Machines.{IsValid as IsValidMachine}
-use Rattle.net_defs.specs.declared.homes.HomeChoice.{HomeChoice}
-use Rattle.net_defs.specs.declared.homes.HomeChoice.TheVariants.{Plain, Better}
-use Rattle.net_defs.specs.declared.netlist.Netlist.{Netlist}
+use Rattle.machine_text.specs.{declared.machine.Machine.Machine, Machines.IsValid as IsValidMachine}
+use Rattle.net_defs.specs.declared.homes.HomeChoice.{HomeChoice, TheVariants.Plain, TheVariants.Better}
+use Rattle.net_defs.specs.declared.{netlist.Netlist.Netlist, timing.Timing.Timing}
 use Rattle.net_defs.specs.declared.timing.Init.TheVariants as init
-use Rattle.net_defs.specs.declared.timing.Timing.{Timing}
-use Rattle.node_defs.specs.declared.items.NodeNet.{NodeNet}
-use Rattle.node_defs.specs.Order.{AreItems}
-use Rattle.node_defs.specs.WellFormed.{IsWellFormed}
-use Rattle.plan_defs.specs.declared.plan.Homes.{Homes}
-use Rattle.plan_defs.specs.declared.plan.Plan.{Plan}
-use Rattle.plan_defs.specs.Homes.{AreHomes}
-use Rattle.plan_defs.specs.Picks.{ArePicked}
-use Rattle.plan_defs.specs.Slots.{IsFirstFitPlan}
-use Rattle.plan_defs.specs.Tables.{Fits}
-use Rattle.home_pick.specs.Better.{IsBetter}
-use Rattle.home_pick.specs.Crossings.{crossings}
+use Rattle.node_defs.specs.{declared.items.NodeNet.NodeNet, Order.AreItems, WellFormed.IsWellFormed}
+use Rattle.plan_defs.specs.{declared.plan.Homes.Homes, declared.plan.Plan.Plan, Homes.AreHomes, Picks.ArePicked, Slots.IsFirstFitPlan, Tables.Fits}
+use Rattle.home_pick.specs.{Better.IsBetter, Crossings.crossings}
 use Rattle.home_pick.proofs.HomeLemmas.{homes_are}
-use Rattle.yse_compile.specs.declared.choose.Chosen.{Chosen}
 use Rattle.yse_compile.specs.Chosen.{FitsBy, FitsEither, HomesFit, IsUsed}
-use Rattle.yse_compile.specs.Designs.{DesignFits}
+use Rattle.yse_compile.specs.{declared.choose.Chosen.Chosen, Designs.DesignFits}
 use Rattle.yse_compile.proofs.lemmas.ChoiceLemmas.{better_are}
 
 -- homes that the choice gives, with a plan that fits

@@ -6,11 +6,10 @@ use Rattle.limits.specs.declared.TheConstants.{MAX_TEXT_BYTES}
 use Rattle.refusals.specs.declared.status.Status.{Status}
 use Rattle.refusals.specs.declared.status.Status.TheVariants as status
 use Rattle.call_steps.specs.Checks.{After, AfterRead, AfterFile, Ends, text_of}
+use Rattle.call_steps.specs.{Outcome.Outcome, Readings.Reading}
 use Rattle.yse_top.specs.Law.{IsProper, HasOutcome}
-use Rattle.call_steps.specs.Outcome.{Outcome}
-use Rattle.call_steps.specs.Readings.{Reading}
-use Rattle.yse_top.proofs.OutcomeLemmas.{outcome_after, outcome_file}
 use Rattle.yse_top.proofs.ProperLemmas.{IsOfText, IsOfEnd, IsCheck, answered, IsEnding, memory_status, text_check, passed_short, proper_after, proper_file, proper_ends}
+use Rattle.yse_top.proofs.OutcomeLemmas.{outcome_after, outcome_file}
 
 -- the statuses that a command may have
 abbrev pub IsOfCommand : Status → Type 0

@@ -1,16 +1,13 @@
 -- What a call that comes to an expected outcome says of the counts of its store, and of its status.
 use Rattle.std.proofs.Common.{◌≡◌, ◌≢◌, ◌∙◌, sym, ap, refl, ℕ, zero, suc, Bool, false, List, [], ◌∷◌, ◌++◌, ◌+◌, length, Option, Some, None, arith}
-use Rattle.std.specs.Prelude.{slice_get, cond, count_by, OnSome, IfSome}
 use Rattle.std.proofs.lemmas.List.Sums.{sum_by-cons}
-use Rattle.edge_io.specs.Counts.{raised, Rose}
-use Rattle.edge_io.specs.Names.{is_absent, OfTold}
-use Rattle.edge_io.specs.declared.counts.FileCounts.{FileCounts}
+use Rattle.std.specs.Prelude.{slice_get, cond, count_by, OnSome, IfSome}
+use Rattle.edge_io.specs.{Counts.raised, Counts.Rose, Names.is_absent, Names.OfTold, declared.counts.FileCounts.FileCounts}
 use Rattle.refusals.specs.declared.status.Status.{Status}
 use Rattle.refusals.specs.declared.status.Status.TheVariants as status
 use Rattle.yse_commands.specs.Ends.{AreToldBy, IsDoneOrMemory}
 use Rattle.yse_top.specs.Law.{IsProper, AgreeOn}
-use Rattle.call_steps.specs.Outcome.{Outcome}
-use Rattle.call_steps.specs.Readings.{Reading, IsReading, AreReadings}
+use Rattle.call_steps.specs.{Outcome.Outcome, Readings.Reading, Readings.IsReading, Readings.AreReadings}
 
 -- the member after a list
 last_at : (before : List Reading) (reading : Reading) → slice_get (before ++ reading ∷ []) (length before) ≡ Some reading

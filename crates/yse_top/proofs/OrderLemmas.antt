@@ -1,40 +1,21 @@
 -- Where a run in an order ends is one outcome, whichever image the netlist was compiled to.
 use Rattle.std.proofs.Common.{◌≡◌, ◌∙◌, sym, ap, subst, refl, inl, inr, ℕ, ◌+◌, ◌<◌, List, length, get_or, replicate, arith}
-use Rattle.std.proofs.lemmas.Bool.{cases_eq}
-use Rattle.std.proofs.lemmas.List.Elements.{All-replicate}
-use Rattle.std.proofs.lemmas.Option.{slice_get_within, slice_get-get_or}
+use Rattle.std.proofs.lemmas.{Bool.cases_eq, List.Elements.All-replicate, Option.slice_get_within, Option.slice_get-get_or}
 use Rattle.list_laws.proofs.Members.{all_flat_of, each}
-use Rattle.machine_text.specs.declared.machine.Machine.{Machine}
-use Rattle.machine_text.specs.Machines.{ports_of}
-use Rattle.net_defs.specs.declared.homes.HomeChoice.{HomeChoice}
-use Rattle.net_defs.specs.declared.netlist.Netlist.{Netlist}
-use Rattle.net_defs.specs.declared.stimulus.Stimulus.{Stimulus}
-use Rattle.net_defs.specs.declared.timing.Timing.{Timing}
-use Rattle.net_defs.specs.Reference.{HasOneSimulation}
-use Rattle.net_defs.specs.Steps.{State}
-use Rattle.net_defs.specs.Time.{cycle_count, turn_count}
-use Rattle.net_defs.specs.Trace.{trace_to}
-use Rattle.image_defs.specs.declared.image.Image.{Image}
-use Rattle.image_defs.specs.declared.image.PortImage.{PortImage}
-use Rattle.image_defs.specs.Places.{Each, IsPort}
-use Rattle.image_defs.specs.WellFormed.{IsWellFormed}
+use Rattle.machine_text.specs.{declared.machine.Machine.Machine, Machines.ports_of}
+use Rattle.net_defs.specs.declared.{homes.HomeChoice.HomeChoice, netlist.Netlist.Netlist, stimulus.Stimulus.Stimulus, timing.Timing.Timing}
+use Rattle.net_defs.specs.{Reference.HasOneSimulation, Steps.State, Time.cycle_count, Time.turn_count, Trace.trace_to}
+use Rattle.image_defs.specs.{declared.image.Image.Image, declared.image.PortImage.PortImage, Places.Each, Places.IsPort, WellFormed.IsWellFormed}
 use Rattle.image_check.proofs.lemmas.KnownLemmas.{IsKnown, known_each, known_same}
 use Rattle.node_defs.proofs.lemmas.MemberLemmas.{member_at}
-use Rattle.event_defs.specs.Linked.{AreLinkedAlike}
-use Rattle.event_defs.specs.declared.place.Place.{Place}
-use Rattle.event_defs.specs.declared.place.CoreStep.{CoreStep}
 use Rattle.event_defs.specs.Steps.{CoreState, AreFirstSteps, AllDone, rows_done}
-use Rattle.stim_text.specs.declared.order.Order.{Order}
-use Rattle.stim_text.specs.declared.order.OrderLine.{OrderLine}
-use Rattle.stim_text.specs.Orders.{IsValidOrder, steps_of}
+use Rattle.event_defs.specs.{Linked.AreLinkedAlike, declared.place.Place.Place, declared.place.CoreStep.CoreStep}
+use Rattle.stim_text.specs.{declared.order.Order.Order, declared.order.OrderLine.OrderLine, Orders.IsValidOrder, Orders.steps_of}
 use Rattle.yse_compile.proofs.lemmas.DesignExists.{HasDesign}
 use Rattle.yse_top.specs.Law.{HasOutcome}
-use Rattle.call_steps.specs.Images.{IsMachineImage}
+use Rattle.call_steps.specs.{Images.IsMachineImage, Checks.Ends, Outcome.Outcome, Outcome.done, Outcome.unfinished}
 use Rattle.yse_commands.specs.Orders.{IsAfterOrder, EndsIn, EndsInOrder}
-use Rattle.call_steps.specs.Checks.{Ends}
-use Rattle.call_steps.specs.Outcome.{Outcome, done, unfinished}
-use Rattle.yse_top.proofs.OutcomeLemmas.{outcome_ends}
-use Rattle.yse_top.proofs.ProperLemmas.{IsEnding, IsOfEnd, alike}
+use Rattle.yse_top.proofs.{OutcomeLemmas.outcome_ends, ProperLemmas.IsEnding, ProperLemmas.IsOfEnd, ProperLemmas.alike}
 
 -- two states of which all that is printed is the same
 pub record AreDoneAlike (until : ℕ) (image other : Image) (one two : CoreState) : Type 0 where

@@ -3,9 +3,9 @@ use Rattle.std.proofs.Common.{◌≡◌, ◌≢◌, sym, refl, subst, ◌⊎◌,
 use Rattle.limits.specs.declared.TheConstants.{MAX_TEXT_BYTES}
 use Rattle.refusals.specs.declared.status.Status.TheVariants as status
 use Rattle.call_steps.specs.Checks.{After, AfterFile, Ends, WritesTold, text_of, read_fault}
-use Rattle.yse_top.specs.Law.{AreGiven, HasOutcome}
 use Rattle.call_steps.specs.Outcome.{Outcome, Turns, done, telling}
 use Rattle.call_steps.specs.Readings.{Reading}
+use Rattle.yse_top.specs.Law.{AreGiven, HasOutcome}
 use Rattle.yse_top.proofs.ProperLemmas.{IsAnswered, answered, text_check, passed_short}
 
 given_none : (give : ℕ → List ℕ → Option (List ℕ)) → AreGiven give []

@@ -1,15 +1,14 @@
 -- A chain of checks is proper where each check and each end is: one lemma for each of the three links.
 use Rattle.std.proofs.Common.{◌≡◌, ◌≢◌, ◌∙◌, sym, ap, refl, subst, ◌⊎◌, inl, inr, ℕ, zero, suc, ◌+◌, ◌≤◌, List, [], ◌∷◌, length, take, map, Option, Some, None, Result, Ok, Err, Bool, true, false, le-leb, arith}
-use Rattle.std.specs.Prelude.{⊤, slice_get, nat_le, if◌then◌else◌}
 use Rattle.std.proofs.lemmas.Bool.{leb-true}
+use Rattle.std.specs.Prelude.{⊤, slice_get, nat_le, if◌then◌else◌}
 use Rattle.limits.specs.declared.TheConstants.{MAX_TEXT_BYTES}
-use Rattle.refusals.specs.declared.status.Status.{Status}
+use Rattle.refusals.specs.{declared.status.Status.Status, Lines.too_long_line}
 use Rattle.refusals.specs.declared.status.Status.TheVariants as status
 use Rattle.call_steps.specs.Checks.{After, AfterRead, AfterFile, Ends, WritesTold, text_of, read_fault}
-use Rattle.yse_top.specs.Law.{AreAlike, AgreeOn, HasCause, IsProper}
-use Rattle.refusals.specs.Lines.{too_long_line}
 use Rattle.call_steps.specs.Outcome.{Outcome, Turns, done, refusal, out_of_memory, telling}
 use Rattle.call_steps.specs.Readings.{Reading}
+use Rattle.yse_top.specs.Law.{AreAlike, AgreeOn, HasCause, IsProper}
 use Rattle.yse_commands.proofs.lemmas.AnswerLemmas.{never_both, passed_once, passes, refused_once, refuses}
 
 -- ---- outcomes

@@ -1,44 +1,24 @@
 -- A design that fits has one report, whichever numbers its tables have.
 use Rattle.std.proofs.Common.{◌≡◌, ◌∙◌, ℕ, ◌+◌, ◌<◌, List, [], ◌++◌, length, map, get_or, refl, sym, ap, ap₂, subst, arith, codes, decimal}
+use Rattle.std.proofs.lemmas.{Bool.cases_eq, List.FromFn.get_or-map-range_with_len}
 use Rattle.std.specs.Prelude.{Option, Some, None, slice_get}
 use Rattle.std.specs.List.{flat_map, range_with_len}
-use Rattle.std.proofs.lemmas.Bool.{cases_eq}
-use Rattle.std.proofs.lemmas.List.FromFn.{get_or-map-range_with_len}
 use Rattle.machine_text.specs.declared.machine.Machine.{Machine}
-use Rattle.net_defs.specs.declared.homes.HomeChoice.{HomeChoice}
-use Rattle.net_defs.specs.declared.homes.HomeChoice.TheVariants.{Plain, Better}
-use Rattle.net_defs.specs.declared.netlist.Netlist.{Netlist}
-use Rattle.net_defs.specs.declared.timing.Timing.{Timing}
-use Rattle.node_defs.specs.declared.items.ItemName.{ItemName}
-use Rattle.node_defs.specs.declared.items.NodeNet.{NodeNet}
-use Rattle.node_defs.specs.Order.{AreItems}
-use Rattle.node_defs.specs.Same.{AreSameItems}
-use Rattle.node_defs.specs.WellFormed.{IsWellFormed}
-use Rattle.plan_defs.specs.declared.plan.Homes.{Homes}
-use Rattle.plan_defs.specs.declared.plan.Plan.{Plan}
-use Rattle.plan_defs.specs.Homes.{AreHomes, ports_of}
-use Rattle.plan_defs.specs.Lists.{Counts, Lists}
-use Rattle.plan_defs.specs.Picks.{ArePicked, bits_before}
-use Rattle.plan_defs.specs.Readers.{IsReader, IsReaderList}
-use Rattle.plan_defs.specs.Slots.{IsFirstFitPlan, slot_of}
-use Rattle.plan_defs.specs.Tables.{UsesTables}
-use Rattle.plan_defs.proofs.ListLemmas.{listed_all}
-use Rattle.plan_defs.proofs.lemmas.PlanLemmas.{plans_agree}
-use Rattle.plan_text.specs.declared.figures.Figures.{Figures}
+use Rattle.net_defs.specs.declared.homes.HomeChoice.{HomeChoice, TheVariants.Plain, TheVariants.Better}
+use Rattle.net_defs.specs.declared.{netlist.Netlist.Netlist, timing.Timing.Timing}
+use Rattle.node_defs.specs.{declared.items.ItemName.ItemName, declared.items.NodeNet.NodeNet, Order.AreItems, Same.AreSameItems, WellFormed.IsWellFormed}
+use Rattle.plan_defs.specs.{declared.plan.Homes.Homes, declared.plan.Plan.Plan, Homes.AreHomes, Homes.ports_of, Lists.Counts, Lists.Lists}
+use Rattle.plan_defs.specs.{Picks.ArePicked, Picks.bits_before, Readers.IsReader, Readers.IsReaderList, Slots.IsFirstFitPlan, Slots.slot_of, Tables.UsesTables}
+use Rattle.plan_defs.proofs.{ListLemmas.listed_all, lemmas.PlanLemmas.plans_agree}
 use Rattle.plan_text.specs.Counted.{AreFigures, Receives, bits_at, items_at}
 use Rattle.plan_text.specs.Lines.{item_line, item_name, port_line, report_text}
-use Rattle.plan_text.specs.Reports.{IsReport}
+use Rattle.plan_text.specs.{declared.figures.Figures.Figures, Reports.IsReport}
 use Rattle.plan_text.proofs.lemmas.OneLemmas.{flat_below, reports_agree}
-use Rattle.yse_compile.proofs.lemmas.SwitchExists.{readers_there}
-use Rattle.yse_compile.specs.declared.choose.Chosen.{Chosen}
-use Rattle.yse_compile.specs.Chosen.{HomesFit, IsUsed}
-use Rattle.image_check.proofs.lemmas.KnownLemmas.{IsKnown, known_below, known_both, known_same}
-use Rattle.yse_compile.proofs.KnownLemmas.{listed_to}
-use Rattle.yse_compile.proofs.lemmas.KnownUses.{reader_known}
-use Rattle.yse_compile.proofs.lemmas.PlanExists.{slots_end, tables_counted}
-use Rattle.yse_compile.proofs.lemmas.SameHomes.{before_kept}
-use Rattle.yse_compile.proofs.lemmas.SamePlans.{plan_kept, reader_kept}
+use Rattle.yse_compile.proofs.{lemmas.SwitchExists.readers_there, KnownLemmas.listed_to, lemmas.KnownUses.reader_known}
+use Rattle.yse_compile.proofs.lemmas.{PlanExists.slots_end, PlanExists.tables_counted, SameHomes.before_kept, SamePlans.plan_kept, SamePlans.reader_kept}
 use Rattle.yse_compile.proofs.lemmas.SameTables.{tables_few}
+use Rattle.yse_compile.specs.{declared.choose.Chosen.Chosen, Chosen.HomesFit, Chosen.IsUsed}
+use Rattle.image_check.proofs.lemmas.KnownLemmas.{IsKnown, known_below, known_both, known_same}
 use Rattle.yse_commands.specs.commands.Plan.{IsReportOf, crossings_line, told_of_homes}
 use Rattle.yse_top.proofs.ChoiceLemmas.{HasHomes}
 

@@ -6,46 +6,30 @@ use Rattle.bench_read.specs.Faults as bench_faults
 use Rattle.bench_read.specs.GateLists as gate_lists
 use Rattle.bench_read.specs.Reads as bench
 use Rattle.cmd_words.specs.declared.command.RunWords.{RunWords}
-use Rattle.image_defs.specs.declared.file.ImageFile.{ImageFile}
-use Rattle.image_defs.specs.declared.image.Image.{Image}
+use Rattle.image_defs.specs.declared.{file.ImageFile.ImageFile, image.Image.Image, file.Claims.Claims}
 use Rattle.image_file.specs.Files.{image_text}
-use Rattle.machine_text.specs.declared.machine.Machine.{Machine}
+use Rattle.machine_text.specs.{declared.machine.Machine.Machine, Machines.default_machine, Machines.IsValid as IsValidMachine, Machines.ports_of}
 use Rattle.machine_text.specs.Machines as machine_text
-use Rattle.machine_text.specs.Machines.{default_machine, IsValid as IsValidMachine, ports_of}
-use Rattle.net_defs.specs.declared.homes.HomeChoice.{HomeChoice}
-use Rattle.net_defs.specs.declared.netlist.Netlist.{Netlist}
-use Rattle.net_defs.specs.declared.stimulus.Stimulus.{Stimulus}
-use Rattle.net_defs.specs.declared.timing.Timing.{Timing}
-use Rattle.net_defs.specs.Reference.{HasOneSimulation}
-use Rattle.net_defs.specs.Trace.{IsTrace}
-use Rattle.net_defs.specs.Valid.{IsValid, input_count}
+use Rattle.net_defs.specs.declared.{homes.HomeChoice.HomeChoice, netlist.Netlist.Netlist, stimulus.Stimulus.Stimulus, timing.Timing.Timing}
+use Rattle.net_defs.specs.{Reference.HasOneSimulation, Trace.IsTrace, Valid.IsValid, Valid.input_count}
 use Rattle.stim_text.specs.Stimuli as stim
 use Rattle.text_lines.specs.Answers.{IsReader}
-use Rattle.yse_compile.specs.declared.compiler.Compiled.{Compiled}
-use Rattle.yse_compile.specs.Chosen.{IsDesign}
-use Rattle.yse_compile.specs.Claims.{AreClaimsOf}
-use Rattle.yse_compile.specs.Designs.{IsAcyclic}
-use Rattle.image_defs.specs.declared.file.Claims.{Claims}
+use Rattle.yse_compile.specs.{declared.compiler.Compiled.Compiled, Chosen.IsDesign, Claims.AreClaimsOf, Designs.IsAcyclic}
 use Rattle.refusals.specs.declared.status.Status.{Status}
 use Rattle.refusals.specs.declared.status.Status.TheVariants as status
-use Rattle.call_steps.specs.declared.reading.Timed.{Timed}
 use Rattle.call_steps.specs.Checks.{After, AfterRead, AfterFile, Ends, HasNoLoop, HasRoom, IsListOf, IsMachineOf, IsNetlistOf, IsStimulusOf, Writes, WritesTold, listing, read_fault, text_of}
 use Rattle.call_steps.specs.Files.{AfterFit, AfterImage, AfterList, AfterMachine, AfterMatch, AfterNetlist, AfterStimulus}
-use Rattle.call_steps.specs.Images.{IsImageFileOf}
-use Rattle.call_steps.specs.Outcome.{Outcome, Turns, out_of_memory}
-use Rattle.call_steps.specs.Designs.{Placed}
 use Rattle.call_steps.specs.Passing.{AfterPlaced, AfterPlacedOn, Continuation, placed}
+use Rattle.call_steps.specs.{declared.reading.Timed.Timed, Images.IsImageFileOf, Outcome.Outcome, Outcome.Turns, Outcome.out_of_memory, Designs.Placed}
 use Rattle.call_steps.specs.Readings.{Reading}
-use Rattle.yse_commands.specs.Told.{run_turns}
-use Rattle.yse_commands.specs.declared.layout.Sheet.TheVariants as sheet
-use Rattle.yse_commands.specs.commands.Compile.{IsImageTextOf}
 use Rattle.yse_commands.specs.commands.Exec.{ExpectedExec, IsTaken, OnImage, RunsImage}
-use Rattle.yse_commands.specs.commands.Layout.{ExpectedLayout, IsSheetOf}
+use Rattle.yse_commands.specs.{Told.run_turns, commands.Compile.IsImageTextOf, commands.Layout.ExpectedLayout, commands.Layout.IsSheetOf}
 use Rattle.yse_commands.specs.commands.Run.{ExpectedRun, RunsOn, RunsTo}
+use Rattle.yse_commands.specs.declared.layout.Sheet.TheVariants as sheet
 use Rattle.yse_commands.proofs.lemmas.AnswerLemmas.{never_both, passed_once}
 use Rattle.yse_top.specs.Sequel.{AreHeld, AreOfOneDesign, Leaves}
-use Rattle.yse_top.proofs.CheckLemmas.{trace_only}
 use Rattle.yse_top.proofs.ProperLemmas.{IsOfText, memory_status, passed_short, text_check}
+use Rattle.yse_top.proofs.CheckLemmas.{trace_only}
 
 -- the laws of the layers below
 pub record Laws : Type 0 where

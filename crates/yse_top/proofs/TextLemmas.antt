@@ -1,16 +1,10 @@
 -- The text of the image that a design is compiled to is one, and there is one.
 use Rattle.std.proofs.Common.{◌≡◌, ◌∙◌, ℕ, List, refl, sym, ap₂}
 use Rattle.machine_text.specs.declared.machine.Machine.{Machine}
-use Rattle.net_defs.specs.declared.homes.HomeChoice.{HomeChoice}
-use Rattle.net_defs.specs.declared.netlist.Netlist.{Netlist}
-use Rattle.net_defs.specs.declared.timing.Timing.{Timing}
-use Rattle.image_defs.specs.declared.image.Image.{Image}
-use Rattle.image_defs.specs.declared.file.Claims.{Claims}
-use Rattle.image_defs.specs.declared.file.ImageFile.{ImageFile}
+use Rattle.net_defs.specs.declared.{homes.HomeChoice.HomeChoice, netlist.Netlist.Netlist, timing.Timing.Timing}
+use Rattle.image_defs.specs.declared.{image.Image.Image, file.Claims.Claims, file.ImageFile.ImageFile}
 use Rattle.image_file.specs.Files.{image_text}
-use Rattle.yse_compile.specs.declared.choose.Chosen.{Chosen}
-use Rattle.yse_compile.specs.Chosen.{IsChosen}
-use Rattle.yse_compile.specs.Claims.{AreClaimsOf}
+use Rattle.yse_compile.specs.{declared.choose.Chosen.Chosen, Chosen.IsChosen, Claims.AreClaimsOf}
 use Rattle.yse_compile.proofs.lemmas.DesignExists.{HasDesign}
 use Rattle.yse_commands.specs.commands.Compile.{IsImageTextOf}
 

@@ -1,10 +1,7 @@
 -- There is one output of the traces of lanes, and there is one.
 use Rattle.std.proofs.Common.{◌≡◌, ◌∙◌, sym, ap₂, refl, ℕ, ◌+◌, List, [], ◌∷◌, ◌++◌}
 use Rattle.trace_text.specs.Lines.{lane_line}
-use Rattle.net_defs.specs.declared.netlist.Netlist.{Netlist}
-use Rattle.net_defs.specs.declared.stimulus.Stimulus.{Stimulus}
-use Rattle.net_defs.specs.declared.timing.Timing.{Timing}
-use Rattle.net_defs.specs.Reference.{HasOneSimulation}
+use Rattle.net_defs.specs.{declared.netlist.Netlist.Netlist, declared.stimulus.Stimulus.Stimulus, declared.timing.Timing.Timing, Reference.HasOneSimulation}
 use Rattle.yse_commands.specs.commands.Pack.{AreTracesAfter}
 use Rattle.yse_top.proofs.CheckLemmas.{trace_only, trace_some}
 

@@ -3,23 +3,15 @@ use Rattle.std.specs.Prelude.{◌≡◌, ◌≢◌, ◌≤◌, ◌↔◌, ℕ, L
 use Rattle.std.specs.Io.KnownBytes.{append_known}
 use Rattle.cmd_words.specs.Asked.{asked}
 use Rattle.crew_run.specs.declared.gate.Gate as gate
-use Rattle.edge_io.specs.Counts.{raised, Rose}
+use Rattle.edge_io.specs.{Counts.raised, Counts.Rose, Writing.TakesLine}
 use Rattle.edge_io.specs.declared.files.Files as files
 use Rattle.edge_io.specs.declared.sink.Sink as sink
-use Rattle.edge_io.specs.Writing.{TakesLine}
 use Rattle.machine_run.specs.Visits.{AreInPlace}
-use Rattle.refusals.specs.declared.status.Status.{Status}
 use Rattle.refusals.specs.declared.status.Status.TheVariants.{Done, Memory, ReadFault, Words, WriteFault}
-use Rattle.refusals.specs.Lines.{memory_line}
-use Rattle.refusals.specs.Statuses.{status_number}
-use Rattle.call_steps.specs.Outcome.{Outcome}
-use Rattle.call_steps.specs.Readings.{Reading, AreReadings}
+use Rattle.refusals.specs.{declared.status.Status.Status, Lines.memory_line, Statuses.status_number}
+use Rattle.call_steps.specs.{Outcome.Outcome, Readings.Reading, Readings.AreReadings}
 use Rattle.yse_commands.specs.Ends.{AreToldBy, EndsAs, IsDoneOrMemory, KeepsStore, KeepsTaken, MayWrite}
-use Rattle.yse_commands.specs.Expected.{Expected}
-use Rattle.yse_commands.specs.Told.{TellsTurns, wrote_at}
-use Rattle.yse_commands.specs.Traced.{IsOutputOfFiles}
-use Rattle.yse_commands.specs.Visited.{TellsGates}
-use Rattle.yse_commands.specs.Words.{files_named}
+use Rattle.yse_commands.specs.{Expected.Expected, Told.TellsTurns, Told.wrote_at, Traced.IsOutputOfFiles, Visited.TellsGates, Words.files_named}
 
 module _ {F O E G : Type 0} (store : files.Ghosts F) (output : sink.Ghosts O) (told : sink.Ghosts E) (p : gate.Ghosts G) (files_old files_new : F) (out_old out_new : O) (err_old err_new : E) (gates gates' : List (Option G)) where
   -- The exit status is the number of the status that the call of these words ended with, and what the call promises

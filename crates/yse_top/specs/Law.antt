@@ -1,14 +1,10 @@
 -- The laws of whole calls: what is expected is one outcome, and there is one, whatever the files hold.
 use Rattle.std.specs.Prelude.{◌≡◌, ◌≢◌, ◌↔◌, ℕ, List, [], ◌∷◌, ◌++◌, ◌+◌, length, take, map, Option, Some, None, slice_get}
 use Rattle.refusals.specs.declared.status.Status.TheVariants as ends
-use Rattle.yse_commands.specs.Expected.{Expected}
+use Rattle.yse_commands.specs.{Expected.Expected, Words.files_named}
 use Rattle.refusals.specs.Lines.{read_fault_line}
-use Rattle.call_steps.specs.Outcome.{Outcome}
-use Rattle.call_steps.specs.Readings.{Reading}
-use Rattle.cmd_words.specs.declared.command.Command.{Command}
-use Rattle.cmd_words.specs.Asked.{asked}
-use Rattle.cmd_words.specs.Forms.{HasForm}
-use Rattle.yse_commands.specs.Words.{files_named}
+use Rattle.call_steps.specs.{Outcome.Outcome, Readings.Reading}
+use Rattle.cmd_words.specs.{declared.command.Command.Command, Asked.asked, Forms.HasForm}
 
 -- two outcomes with the same status, the same output, the same turns that the gates are told of, and the same line unless
 -- it names a loop

@@ -2,18 +2,13 @@
 use Rattle.std.specs.Prelude.{◌≡◌, ◌⊎◌, ◌≤◌, ℕ, Bool, List, Option, Some, IfSome, length, slice_get}
 use Rattle.std.specs.Io.KnownBytes.{append_known}
 use Rattle.cmd_words.specs.declared.command.Command.TheVariants as command
-use Rattle.cmd_words.specs.declared.command.RunWords.{RunWords}
-use Rattle.cmd_words.specs.Forms.{HasForm}
-use Rattle.edge_io.specs.Counts.{Rose}
-use Rattle.edge_io.specs.Writing.{TakesLine}
-use Rattle.edge_io.specs.declared.counts.FileCounts.{FileCounts}
+use Rattle.cmd_words.specs.{declared.command.RunWords.RunWords, Forms.HasForm}
+use Rattle.edge_io.specs.{Counts.Rose, Writing.TakesLine, declared.counts.FileCounts.FileCounts}
 use Rattle.limits.specs.declared.TheConstants.{MAX_TEXT_BYTES}
 use Rattle.refusals.specs.declared.status.Status.{Status}
 use Rattle.refusals.specs.declared.status.Status.TheVariants as status
-use Rattle.call_steps.specs.Outcome.{Outcome}
-use Rattle.call_steps.specs.Readings.{Reading, AreReadings}
-use Rattle.yse_commands.specs.Ends.{EndsAs}
-use Rattle.yse_commands.specs.Expected.{Expected}
+use Rattle.call_steps.specs.{Outcome.Outcome, Readings.Reading, Readings.AreReadings}
+use Rattle.yse_commands.specs.{Ends.EndsAs, Expected.Expected}
 
 -- what was read of a file is what it holds
 abbrev pub AreHeld : (List ℕ → List ℕ) → List Reading → Type 0

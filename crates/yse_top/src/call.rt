@@ -7,9 +7,7 @@ ghost use Rattle.edge_io.specs.Writing.{TakesLine};
 ghost use Rattle.limits.specs.declared.TheConstants.{MAX_WORKERS};
 ghost use Rattle.machine_run.specs.Visits.{AreInPlace};
 ghost use Rattle.yse_top.specs.code.Came.{CameTo};
-ghost use Rattle.yse_commands.specs.Ends.{MayWrite};
-ghost use Rattle.yse_commands.specs.Expected.{Expected, ExpectedOf};
-ghost use Rattle.yse_commands.specs.Visited.{AllCanTell};
+ghost use Rattle.yse_commands.specs.{Ends.MayWrite, Expected.Expected, Expected.ExpectedOf, Visited.AllCanTell};
 
 use crate::commands::prepare;
 use crate::ending::end;

@@ -4,11 +4,7 @@ ghost use Rattle.std.specs.Prelude.{◌≡◌, ◌≤◌, IfOk, length};
 ghost use Rattle.cmd_words.specs.Forms.{IsInRange};
 ghost use Rattle.limits.specs.declared.TheConstants.{MAX_WORKERS};
 ghost use Rattle.machine_run.specs.Visits.{AreInPlace};
-ghost use Rattle.yse_commands.specs.Expected.{ExpectedOf};
-ghost use Rattle.yse_commands.specs.Outputs.{CanEnd};
-ghost use Rattle.yse_commands.specs.Refusals.{MayTake};
-ghost use Rattle.yse_commands.specs.Telling.{Comes};
-ghost use Rattle.yse_commands.specs.Visited.{AllCanTell};
+ghost use Rattle.yse_commands.specs.{Expected.ExpectedOf, Outputs.CanEnd, Refusals.MayTake, Telling.Comes, Visited.AllCanTell};
 
 use cmd_words::Command;
 use crew_run::Gate;

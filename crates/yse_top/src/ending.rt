@@ -1,10 +1,8 @@
 //! The end of a call whose output is had.
 
 ghost use Rattle.std.specs.Prelude.{◌≡◌, OnErr};
-ghost use Rattle.yse_commands.specs.code.Endings.{ending_in, status_after, IsTold};
-ghost use Rattle.yse_commands.specs.Ends.{EndsAs, MayWrite};
-ghost use Rattle.yse_commands.specs.Outputs.{CanEnd, HasTaken, wrote_in};
-ghost use Rattle.yse_commands.specs.Refusals.{ended_with};
+ghost use Rattle.yse_commands.specs.{code.Endings.ending_in, code.Endings.status_after, code.Endings.IsTold, Ends.EndsAs, Ends.MayWrite};
+ghost use Rattle.yse_commands.specs.{Outputs.CanEnd, Outputs.HasTaken, Outputs.wrote_in, Refusals.ended_with};
 ghost use Rattle.edge_io.specs.Writing.{TakesLine};
 
 use edge_io::Sink;

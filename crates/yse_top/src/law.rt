@@ -1,16 +1,10 @@
 //! What holds of every whole call. The functions do nothing: their clauses are the laws.
 
 ghost use Rattle.image_defs.specs.declared.file.Claims.{Claims};
-ghost use Rattle.machine_text.specs.declared.machine.Machine.{Machine};
-ghost use Rattle.machine_text.specs.Machines.{IsValid as IsValidMachine};
-ghost use Rattle.net_defs.specs.declared.netlist.Netlist.{Netlist};
-ghost use Rattle.net_defs.specs.declared.timing.Timing.{Timing};
-ghost use Rattle.net_defs.specs.Valid.{IsValid};
-ghost use Rattle.yse_compile.specs.declared.compiler.Compiled.{Compiled};
-ghost use Rattle.yse_compile.specs.Claims.{AreClaimsOf};
-ghost use Rattle.yse_compile.specs.Chosen.{IsDesign};
-ghost use Rattle.yse_top.specs.Law.{AreProper, HaveOutcomes, TellsWords};
-ghost use Rattle.yse_top.specs.Sequel.{RunsWhatIsCompiled};
+ghost use Rattle.machine_text.specs.{declared.machine.Machine.Machine, Machines.IsValid as IsValidMachine};
+ghost use Rattle.net_defs.specs.{declared.netlist.Netlist.Netlist, declared.timing.Timing.Timing, Valid.IsValid};
+ghost use Rattle.yse_compile.specs.{declared.compiler.Compiled.Compiled, Claims.AreClaimsOf, Chosen.IsDesign};
+ghost use Rattle.yse_top.specs.{Law.AreProper, Law.HaveOutcomes, Law.TellsWords, Sequel.RunsWhatIsCompiled};
 ghost use Rattle.yse_commands.specs.commands.Exec.{IsTaken};
 
 use bench_read::law::{reads_or_faults as netlists_or_faults, texts_read_as_valid};

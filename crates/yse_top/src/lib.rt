@@ -7,22 +7,16 @@
 #![tactic(auto)]
 
 ghost use Rattle.std.specs.Prelude.{◌≡◌, ◌≢◌, ◌≤◌, ◌↔◌, ℕ, List, None, map, length};
-ghost use Rattle.std.specs.Io.KnownBytes.{append_known};
-ghost use Rattle.std.specs.String.{string_bytes};
-ghost use Rattle.edge_io.specs.Counts.{raised, Rose};
+ghost use Rattle.std.specs.{Io.KnownBytes.append_known, String.string_bytes};
+ghost use Rattle.edge_io.specs.{Counts.raised, Counts.Rose, Writing.TakesLine};
 ghost use Rattle.cmd_words.specs.Asked.{asked};
 ghost use Rattle.limits.specs.declared.TheConstants.{MAX_WORKERS};
 ghost use Rattle.machine_run.specs.Visits.{AreInPlace};
 ghost use Rattle.yse_commands.specs.Ends.{EndsAs, IsDoneOrMemory, KeepsStore, KeepsTaken, MayWrite, AreToldBy};
-ghost use Rattle.yse_commands.specs.Expected.{Expected};
-ghost use Rattle.refusals.specs.Lines.{memory_line};
-ghost use Rattle.call_steps.specs.Outcome.{Outcome};
-ghost use Rattle.call_steps.specs.Readings.{Reading, AreReadings};
-ghost use Rattle.yse_commands.specs.Told.{TellsTurns, wrote_at};
-ghost use Rattle.yse_commands.specs.Traced.{IsOutputOfFiles};
-ghost use Rattle.yse_commands.specs.Visited.{AllCanTell, TellsGates};
+ghost use Rattle.yse_commands.specs.{Expected.Expected, Told.TellsTurns, Told.wrote_at, Traced.IsOutputOfFiles, Visited.AllCanTell, Visited.TellsGates};
 ghost use Rattle.yse_commands.specs.Words.{files_named};
-ghost use Rattle.edge_io.specs.Writing.{TakesLine};
+ghost use Rattle.refusals.specs.Lines.{memory_line};
+ghost use Rattle.call_steps.specs.{Outcome.Outcome, Readings.Reading, Readings.AreReadings};
 
 mod call;
 mod commands;

@@ -1,15 +1,11 @@
 //! A whole call with the words that were read, as a program makes it.
 
 ghost use Rattle.std.specs.Prelude.{◌≡◌, ◌≤◌, ℕ, List as Items, Option, MatchOption, length, map};
-ghost use Rattle.std.specs.String.{string_bytes};
-ghost use Rattle.std.specs.IoError.{error_kind};
-ghost use Rattle.std.specs.Process.{exit_status};
+ghost use Rattle.std.specs.{String.string_bytes, IoError.error_kind, Process.exit_status};
 ghost use Rattle.limits.specs.declared.TheConstants.{MAX_WORKERS};
 ghost use Rattle.refusals.specs.Statuses.{status_number};
 ghost use Rattle.yse_commands.specs.Visited.{AllCanTell};
-ghost use Rattle.yse_top.specs.Given.{Gives};
-ghost use Rattle.yse_top.specs.code.Given.{words_in};
-ghost use Rattle.yse_top.specs.Ended.{EndsBy, EndsForMemory};
+ghost use Rattle.yse_top.specs.{Given.Gives, code.Given.words_in, Ended.EndsBy, Ended.EndsForMemory};
 
 use crate::{out_of_memory, yse};
 use crew_run::Gate;

@@ -1,9 +1,7 @@
 -- Beside specs/Places.antt, what only private functions and proofs cite.
 use Rattle.std.specs.Prelude.{◌≡◌, ◌⊎◌, ℕ, ◌+◌, ◌<◌, ◌≤◌, List, length}
-use Rattle.logic_four.specs.declared.V4.{V4}
 use Rattle.logic_four.specs.declared.V4.TheVariants.{Zero, One, Undef, HighZ}
-use Rattle.logic_four.specs.Values.{settled}
-use Rattle.logic_four.specs.Packed.{packed_value}
+use Rattle.logic_four.specs.{declared.V4.V4, Values.settled, Packed.packed_value}
 
 -- the places from base on have the values f 0 to f (count - 1), and all others are as they were
 pub record Writes (old new : List ℕ) (base count : ℕ) (f : ℕ → V4) : Type 0 where

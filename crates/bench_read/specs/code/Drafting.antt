@@ -2,12 +2,8 @@
 use Rattle.std.specs.Prelude.{◌≡◌, ℕ, ◌≤◌, List, map, length}
 use Rattle.limits.specs.declared.TheConstants.{MAX_OPERANDS, MAX_SIGNALS}
 use Rattle.bench_text.specs.Rows.{Row}
-use Rattle.bench_read.specs.declared.draft.Draft.{Draft}
-use Rattle.bench_read.specs.code.Drafts.{lines_by}
 use Rattle.bench_read.specs.Lines.{Line, all_driven, all_used, operand_count}
-use Rattle.bench_read.specs.Placed.{Placed, placed_of}
-use Rattle.bench_read.specs.code.Placed.{lines_at}
-use Rattle.bench_read.specs.Reads.{AreOnce}
+use Rattle.bench_read.specs.{declared.draft.Draft.Draft, code.Drafts.lines_by, Placed.Placed, Placed.placed_of, code.Placed.lines_at, Reads.AreOnce}
 
 -- the names that the lines of a draft drive, and those that they use
 abbrev pub driven_names : Draft → List (List ℕ)

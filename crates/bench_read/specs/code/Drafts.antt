@@ -1,11 +1,8 @@
 -- The lines of a draft: statements, with the names that they drive and use in two lists.
 use Rattle.std.specs.Prelude.{ℕ, ◌+◌, List, [], ◌∷◌, take, drop, slice_index_or}
-use Rattle.bench_read.specs.declared.draft.Act.{Act}
+use Rattle.bench_read.specs.{declared.draft.Act.Act, declared.draft.Statement.Statement, Lines.Line, Placed.Placed}
 use Rattle.bench_read.specs.declared.draft.Act.TheVariants as act
-use Rattle.bench_read.specs.declared.draft.Statement.{Statement}
-use Rattle.bench_read.specs.Lines.{Line}
 use Rattle.bench_read.specs.Lines as lines
-use Rattle.bench_read.specs.Placed.{Placed}
 
 -- how many names it drives
 abbrev pub driven_count : Act → ℕ

@@ -1,14 +1,11 @@
 -- How the netlist of a draft is made, line by line.
 use Rattle.std.specs.Prelude.{ℕ, ◌+◌, ◌-◌, nat_lt, if◌then◌else◌, List, [], ◌∷◌, ◌++◌, map, length, take, drop, slice_index}
 use Rattle.std.specs.List.{range_with_len}
-use Rattle.net_defs.specs.declared.netlist.Netlist.{Netlist}
-use Rattle.net_defs.specs.declared.netlist.Driver.{Driver}
+use Rattle.net_defs.specs.declared.netlist.{Netlist.Netlist, Driver.Driver}
 use Rattle.net_defs.specs.declared.netlist.Driver.TheVariants as driver
-use Rattle.bench_read.specs.declared.lines.DraftLine.{DraftLine}
-use Rattle.bench_read.specs.declared.lines.DraftLine.TheVariants as draft_line
 use Rattle.bench_read.specs.Lines.{used, Line, Input, Output, Gate, Register, Memory}
-use Rattle.bench_read.specs.Netlists.{input_names, other_names, bit_signals}
-use Rattle.bench_read.specs.Placed.{Placed}
+use Rattle.bench_read.specs.{declared.lines.DraftLine.DraftLine, Netlists.input_names, Netlists.other_names, Netlists.bit_signals, Placed.Placed}
+use Rattle.bench_read.specs.declared.lines.DraftLine.TheVariants as draft_line
 
 -- the line that a line of a draft is
 abbrev pub seen : DraftLine → Line

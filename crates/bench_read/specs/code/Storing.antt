@@ -1,23 +1,15 @@
 -- How a draft stores lines.
 use Rattle.std.specs.Prelude.{◌≡◌, ℕ, ◌+◌, List, [], ◌∷◌, ◌++◌, map, length, ◌==◌, codes, Option, Some, None, Result, Ok, Err, if◌then◌else◌}
-use Rattle.logic_four.specs.declared.Kind.{Kind}
-use Rattle.logic_four.specs.Kinds.{kind_of, allows_operands}
-use Rattle.bench_text.specs.Rows.{Row}
-use Rattle.bench_text.specs.declared.form.Head.{Head}
+use Rattle.logic_four.specs.{declared.Kind.Kind, Kinds.kind_of, Kinds.allows_operands}
+use Rattle.bench_text.specs.{Rows.Row, declared.form.Head.Head}
 use Rattle.bench_text.specs.declared.form.Head.TheVariants as head
-use Rattle.bench_read.specs.declared.refusal.BenchNo.{BenchNo}
-use Rattle.bench_read.specs.declared.refusal.BenchNo.TheVariants.{Syntax, UnknownKind, Arity}
-use Rattle.bench_read.specs.declared.draft.Act.{Act}
-use Rattle.bench_read.specs.declared.draft.Act.TheVariants as act
-use Rattle.bench_read.specs.declared.draft.Statement.{Statement}
-use Rattle.bench_read.specs.declared.draft.DrivenName.{DrivenName}
-use Rattle.bench_read.specs.declared.draft.Draft.{Draft}
 use Rattle.bench_read.specs.Lines.{Line, driven, used, all_used, operand_count}
-use Rattle.bench_read.specs.Lines as lines
-use Rattle.bench_read.specs.Saying.{is_word, allows_memory, said}
-use Rattle.bench_read.specs.Placed.{Placed, Named, drivers_of}
-use Rattle.bench_read.specs.code.Placed.{lines_at}
+use Rattle.bench_read.specs.declared.refusal.BenchNo.{BenchNo, TheVariants.Syntax, TheVariants.UnknownKind, TheVariants.Arity}
+use Rattle.bench_read.specs.declared.draft.{Act.Act, Statement.Statement, DrivenName.DrivenName, Draft.Draft}
+use Rattle.bench_read.specs.{Saying.is_word, Saying.allows_memory, Saying.said, Placed.Placed, Placed.Named, Placed.drivers_of, code.Placed.lines_at}
 use Rattle.bench_read.specs.code.Drafting.{used_names}
+use Rattle.bench_read.specs.declared.draft.Act.TheVariants as act
+use Rattle.bench_read.specs.Lines as lines
 
 -- ---- what a line does
 

@@ -2,10 +2,8 @@
 use Rattle.std.proofs.Common.{◌≡◌, ℕ, Bool, true, false, Option, Some, None, arith}
 use Rattle.text_lines.specs.Bytes.{is_visible, is_hash, is_line_feed, is_return, is_blank}
 use Rattle.text_lines.specs.Names.{is_mark, is_name_byte}
-use Rattle.bench_text.specs.declared.class.Class.{Class}
 use Rattle.bench_text.specs.declared.class.Class.TheVariants.{Name, Sign, Blank, Feed, Return, Hash, Bad}
-use Rattle.bench_text.specs.declared.token.Mark.{Mark}
-use Rattle.bench_text.specs.Bytes.{sign_of, class_of}
+use Rattle.bench_text.specs.{declared.class.Class.Class, declared.token.Mark.Mark, Bytes.sign_of, Bytes.class_of}
 
 -- the mark of a byte of a class, and whether it is of a name, visible, a blank, LF, CR and `#`
 abbrev pub tests_in : Class → Option Mark × Bool × Bool × Bool × Bool × Bool × Bool

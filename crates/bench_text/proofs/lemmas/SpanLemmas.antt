@@ -1,26 +1,18 @@
 -- What the tokens of a text cover.
 use Rattle.std.proofs.Common.{add-zero, ◌≡◌, ℕ, zero, suc, ◌+◌, ◌-◌, ◌<◌, ◌≤◌, ◌↔◌, Bool, true, false, cond, List, ◌++◌, length, drop, get_or, Option, Some, None, ap, subst, refl, inl, inr, arith, append-nil}
-use Rattle.std.specs.Option.{option_to_list}
-use Rattle.std.specs.List.{All, AllPairs, Contains}
-use Rattle.std.proofs.lemmas.Bool.{cases_lt, cases_Bool}
-use Rattle.std.proofs.lemmas.List.{length-take, get_or-take, drop_more}
 use Rattle.std.proofs.lemmas.List.Elements.{Contains-get_or, Contains-append_left, Contains-append_right, Contains-append_cases}
-use Rattle.std.proofs.lemmas.List.Quantifiers.{all_pairs_push}
-use Rattle.text_lines.specs.Bytes.{is_visible, is_blank}
-use Rattle.bench_text.proofs.PlaceLemmas.{scan_behind, is_comment_step, run_front, run_passes, run_within, run_stops, run_begins, inside}
-use Rattle.text_lines.specs.Places.{stays_in_comment, is_comment, line_at, is_line_end}
-use Rattle.text_lines.specs.Answers.{first}
+use Rattle.std.proofs.lemmas.{Bool.cases_lt, Bool.cases_Bool, List.length-take, List.get_or-take, List.drop_more, List.Quantifiers.all_pairs_push}
 use Rattle.std.proofs.lemmas.Option.{same_Some, cond_some}
-use Rattle.bench_text.specs.declared.class.Class.{Class}
-use Rattle.bench_text.specs.declared.class.Class.TheVariants as class
-use Rattle.text_lines.specs.Names.{is_name_byte}
-use Rattle.bench_text.specs.declared.token.Mark.{Mark}
-use Rattle.bench_text.specs.declared.token.Mark.TheVariants.{Name}
-use Rattle.bench_text.specs.declared.token.Token.{Token}
-use Rattle.bench_text.specs.Bytes.{sign_of, class_of}
+use Rattle.std.specs.{Option.option_to_list, List.All, List.AllPairs, List.Contains}
+use Rattle.text_lines.specs.Places.{stays_in_comment, is_comment, line_at, is_line_end}
+use Rattle.text_lines.specs.{Bytes.is_visible, Bytes.is_blank, Answers.first, Names.is_name_byte}
+use Rattle.bench_text.proofs.PlaceLemmas.{scan_behind, is_comment_step, run_front, run_passes, run_within, run_stops, run_begins, inside}
+use Rattle.bench_text.proofs.lemmas.ByteLemmas.{IsOfClass, class_is, named_byte}
 use Rattle.bench_text.specs.Tokens.{follows_name, begins_name, name_length, token_at, token_of_sign, tokens_before, tokens_of, is_bad, fault_at}
 use Rattle.bench_text.specs.Spans.{AreBytesOf, StandsIn, IsBefore, IsCovered, IsRead}
-use Rattle.bench_text.proofs.lemmas.ByteLemmas.{IsOfClass, class_is, named_byte}
+use Rattle.bench_text.specs.declared.{class.Class.Class, token.Mark.Mark, token.Mark.TheVariants.Name, token.Token.Token}
+use Rattle.bench_text.specs.Bytes.{sign_of, class_of}
+use Rattle.bench_text.specs.declared.class.Class.TheVariants as class
 
 -- ---- the token of a place
 

@@ -1,16 +1,14 @@
 -- Forms and their spellings.
 use Rattle.std.proofs.Common.{◌≡◌, ℕ, ◌+◌, ◌<◌, ◌≤◌, length, arith, append_assoc, true, List, [], ◌∷◌, ◌++◌, Option, Some, sym, ap, ◌∙◌, refl}
+use Rattle.std.proofs.lemmas.{Option.option_and_then_some, Option.same_Some, List.length-append}
 use Rattle.std.specs.Option.{option_map, option_and_then}
-use Rattle.std.proofs.lemmas.Option.{option_and_then_some, same_Some}
-use Rattle.bench_text.specs.declared.token.Mark.{Mark}
-use Rattle.bench_text.specs.declared.token.Mark.TheVariants as mark
 use Rattle.bench_text.specs.declared.token.Mark.TheVariants.{Open, Close, Comma, Equals, Semi, Left, Right}
-use Rattle.std.proofs.lemmas.List.{length-append}
 use Rattle.bench_text.specs.Forms.{Names, all_of, Form, Port, Gate, Memory}
-use Rattle.limits.specs.declared.TheConstants.{MAX_GATE_OPERANDS}
-use Rattle.bench_text.specs.Heads.{Added}
 use Rattle.bench_text.specs.Spelling.{Piece, Sign, Word, commas, listed, spelled}
 use Rattle.bench_text.specs.Decoding.{take_sign, take_word, with_name, take_more, take_names, is_closed, closed, take_head, memory_behind, form_of}
+use Rattle.bench_text.specs.{declared.token.Mark.Mark, Heads.Added}
+use Rattle.bench_text.specs.declared.token.Mark.TheVariants as mark
+use Rattle.limits.specs.declared.TheConstants.{MAX_GATE_OPERANDS}
 
 -- ---- from a form to its spelling and back
 

@@ -1,11 +1,8 @@
 -- What stands at the front of a part of a line.
 use Rattle.std.specs.Prelude.{ℕ, Bool, false, ◌&&◌, not, List, Option, Some, None, drop}
-use Rattle.std.specs.List.{prefix_len}
-use Rattle.std.specs.Option.{is_some}
+use Rattle.std.specs.{List.prefix_len, Option.is_some}
 use Rattle.text_lines.specs.Names.{is_name_byte}
-use Rattle.bench_text.specs.Bytes.{sign_of}
-use Rattle.bench_text.specs.declared.token.Mark.{Mark}
-use Rattle.bench_text.specs.Spelling.{same_mark}
+use Rattle.bench_text.specs.{Bytes.sign_of, declared.token.Mark.Mark, Spelling.same_mark}
 
 -- a byte that is no mark and of no name
 unfoldable pub is_filler : ℕ → Bool

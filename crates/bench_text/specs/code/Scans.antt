@@ -1,17 +1,13 @@
 -- Where a scan of a text stands just before a place, and what it finds there.
 use Rattle.std.specs.Prelude.{◌≡◌, ℕ, zero, suc, ◌+◌, ◌<◌, ◌≤◌, Bool, false, ◌==◌, ◌||◌, List, length, slice_index, nat_lt, Option, Some, None, if◌then◌else◌}
 use Rattle.limits.specs.declared.TheConstants.{MAX_NAME_BYTES}
-use Rattle.text_lines.specs.Bytes.{is_line_feed}
 use Rattle.text_lines.specs.Places.{stays_in_comment, is_comment, line_at, column_at}
-use Rattle.text_lines.specs.Names.{is_name_byte}
-use Rattle.bench_text.specs.declared.scan.Scan.{Scan}
-use Rattle.bench_text.specs.declared.class.Class.{Class}
+use Rattle.text_lines.specs.{Bytes.is_line_feed, Names.is_name_byte}
 use Rattle.bench_text.specs.declared.class.Class.TheVariants.{Name, Sign, Return, Bad}
-use Rattle.bench_text.specs.declared.token.Mark.TheVariants as mark
-use Rattle.bench_text.specs.declared.token.Token.{Token}
-use Rattle.bench_text.specs.declared.token.TextNo.{TextNo}
+use Rattle.bench_text.specs.declared.{scan.Scan.Scan, class.Class.Class, token.Token.Token, token.TextNo.TextNo}
 use Rattle.bench_text.specs.declared.token.TextNo.TheVariants.{BadByte, LongName}
 use Rattle.bench_text.specs.Tokens.{follows_name, name_length, fault_at}
+use Rattle.bench_text.specs.declared.token.Mark.TheVariants as mark
 
 -- whether the byte just before a place is inside a comment
 abbrev pub follows_comment : List ℕ → ℕ → Bool

@@ -1,8 +1,6 @@
 -- What a reader of names did: it counted names, added them to a list, and left the rest.
 use Rattle.std.specs.Prelude.{◌≡◌, ℕ, List, Option, Some, None}
-use Rattle.bench_text.specs.Forms.{Names, all_of}
-use Rattle.bench_text.specs.Spelling.{Piece}
-use Rattle.bench_text.specs.Heads.{Added}
+use Rattle.bench_text.specs.{Forms.Names, Forms.all_of, Spelling.Piece, Heads.Added}
 
 -- a list of names stood at the front: so many were counted and added, and these pieces follow; or no list stood
 -- there

@@ -1,11 +1,8 @@
 -- What was read, file by file.
 use Rattle.std.proofs.Common.{◌≡◌, ◌∙◌, ◌⊎◌, sym, refl, subst, inl, inr, ap, ℕ, zero, suc, ◌+◌, ◌≤◌, Bool, true, false, List, [], ◌∷◌, ◌++◌, length, Option, Some, arith}
+use Rattle.std.proofs.lemmas.List.{length-append, Sums.sum_by-append}
 use Rattle.std.specs.Prelude.{slice_get, cond, count_by}
-use Rattle.std.proofs.lemmas.List.{length-append}
-use Rattle.std.proofs.lemmas.List.Sums.{sum_by-append}
-use Rattle.edge_io.specs.Counts.{raised, raised_if}
-use Rattle.edge_io.specs.Names.{is_absent}
-use Rattle.edge_io.specs.declared.counts.FileCounts.{FileCounts}
+use Rattle.edge_io.specs.{Counts.raised, Counts.raised_if, Names.is_absent, declared.counts.FileCounts.FileCounts}
 use Rattle.call_steps.specs.Readings.{Reading, IsReading, AreReadings}
 use Rattle.edge_io.proofs.lemmas.WritingLemmas.{rose_since, rose_until}
 

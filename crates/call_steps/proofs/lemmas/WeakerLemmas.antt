@@ -2,24 +2,14 @@
 use Rattle.std.proofs.Common.{◌≡◌, inl, inr, ℕ, List, [], ◌∷◌, Option, Some, None, Result}
 use Rattle.image_defs.specs.declared.image.Image.{Image}
 use Rattle.machine_text.specs.declared.machine.Machine.{Machine}
-use Rattle.net_defs.specs.declared.faults.Fault.{Fault}
-use Rattle.net_defs.specs.declared.homes.HomeChoice.{HomeChoice}
-use Rattle.net_defs.specs.declared.netlist.Netlist.{Netlist}
-use Rattle.net_defs.specs.declared.stimulus.Stimulus.{Stimulus}
-use Rattle.net_defs.specs.declared.timing.Timing.{Timing}
+use Rattle.net_defs.specs.declared.{faults.Fault.Fault, homes.HomeChoice.HomeChoice, netlist.Netlist.Netlist, stimulus.Stimulus.Stimulus, timing.Timing.Timing}
 use Rattle.cmd_words.specs.declared.command.RunWords.{RunWords}
-use Rattle.stim_text.specs.declared.lanes.Lanes.{Lanes}
-use Rattle.stim_text.specs.declared.order.Order.{Order}
-use Rattle.call_steps.specs.declared.checks.Built.{Built}
-use Rattle.call_steps.specs.declared.designs.Runnable.{Runnable}
-use Rattle.call_steps.specs.declared.reading.Timed.{Timed}
+use Rattle.stim_text.specs.declared.{lanes.Lanes.Lanes, order.Order.Order}
 use Rattle.call_steps.specs.Checks.{After, AfterFile, AfterRead, HasNoLoop, HasRoom, IsFaultListOf, IsLanesOf, IsListOf, IsMachineOf, IsNetlistOf, IsOrderOf, IsStimulusOf, listing, text_of}
-use Rattle.call_steps.specs.Designs.{Placed, Prepared}
-use Rattle.call_steps.specs.Outcome.{Outcome}
 use Rattle.call_steps.specs.Passing.{AfterBuilt, AfterNetlistFile, AfterOrderFile, AfterPlaced, AfterPlacedOn, AfterReady, AfterRunnable, AfterTimed, Continuation, placed}
-use Rattle.call_steps.specs.Readings.{Reading}
-use Rattle.call_steps.specs.Images.{IsAccepted, IsImageFileOf}
 use Rattle.call_steps.specs.Files.{AfterFaultList, AfterFit, AfterImage, AfterLanes, AfterList, AfterMachine, AfterMatch, AfterNetlist, AfterStimulus}
+use Rattle.call_steps.specs.{declared.checks.Built.Built, declared.designs.Runnable.Runnable, declared.reading.Timed.Timed, Designs.Placed, Designs.Prepared}
+use Rattle.call_steps.specs.{Outcome.Outcome, Readings.Reading, Images.IsAccepted, Images.IsImageFileOf}
 
 -- what follows one end follows the other
 abbrev pub Implies : (List Reading → Outcome → Type 0) → (List Reading → Outcome → Type 0) → Type 0

@@ -1,11 +1,7 @@
 -- Beside specs/Passing.antt, what only private functions and proofs cite.
 use Rattle.std.specs.Prelude.{ℕ, List}
 use Rattle.image_defs.specs.declared.file.ImageFile.{ImageFile}
-use Rattle.call_steps.specs.Checks.{After, AfterFile}
-use Rattle.call_steps.specs.Images.{IsImageFileOf}
-use Rattle.call_steps.specs.Outcome.{Outcome}
-use Rattle.call_steps.specs.Passing.{Continuation}
-use Rattle.call_steps.specs.Readings.{Reading}
+use Rattle.call_steps.specs.{Checks.After, Checks.AfterFile, Images.IsImageFileOf, Outcome.Outcome, Passing.Continuation, Readings.Reading}
 
 -- the image of a file
 abbrev pub AfterImageFile : List ℕ → Continuation ImageFile → List Reading → Outcome → Type 0

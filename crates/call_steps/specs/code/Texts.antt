@@ -2,9 +2,7 @@
 use Rattle.std.specs.Prelude.{◌≡◌, ℕ, List, [], ◌∷◌, Bool, Option, Some, None, Result, Ok, Err}
 use Rattle.edge_io.specs.declared.counts.FileCounts.{FileCounts}
 use Rattle.refusals.specs.declared.refusal.Refusal.{Refusal}
-use Rattle.call_steps.specs.Checks.{text_of, read_fault}
-use Rattle.call_steps.specs.Readings.{AreReadings}
-use Rattle.call_steps.specs.Refused.{Satisfies, refused_of}
+use Rattle.call_steps.specs.{Checks.text_of, Checks.read_fault, Readings.AreReadings, Refused.Satisfies, Refused.refused_of}
 
 -- a call answers the text of a file whose bytes these are
 abbrev pub AnswersText : List ℕ → Option (List ℕ) → Result (List ℕ) Refusal → Type 0

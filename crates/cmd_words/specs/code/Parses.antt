@@ -3,21 +3,13 @@ use Rattle.std.specs.Prelude.{◌≡◌, ◌==◌, ◌&&◌, ℕ, Bool, true, fa
 use Rattle.std.specs.Borrow.{Bor}
 use Rattle.clap.specs.Matches.{found_of, first_value, matched_of, raw_values}
 use Rattle.clap.specs.Simple.{App, new_app, new_rule, on_top}
-use Rattle.clap.specs.Walk.{Rule}
-use Rattle.clap.specs.declared.builder.action.ArgAction.TheVariants.{Set, Append}
-use Rattle.clap.specs.declared.builder.value_parser.ValueParser.TheVariants.{NonEmptyString}
-use Rattle.clap.specs.declared.error.kind.ErrorKind.{ErrorKind}
-use Rattle.clap.specs.declared.error.kind.ErrorKind.TheVariants.{OutOfMemory}
-use Rattle.clap.specs.declared.parser.matches.ArgMatches.{ArgMatches}
-use Rattle.net_defs.specs.declared.homes.HomeChoice.{HomeChoice}
-use Rattle.net_defs.specs.declared.timing.Timing.{Timing}
-use Rattle.cmd_words.specs.declared.command.WordNo.{WordNo}
-use Rattle.cmd_words.specs.declared.command.WordNo.TheVariants.{Usage, Memory}
-use Rattle.cmd_words.specs.Arguments.{Word, dashes, value_given}
-use Rattle.cmd_words.specs.Asked.{Values}
+use Rattle.clap.specs.{Walk.Rule, declared.builder.action.ArgAction.TheVariants.Set, declared.builder.action.ArgAction.TheVariants.Append}
+use Rattle.clap.specs.declared.{builder.value_parser.ValueParser.TheVariants.NonEmptyString, error.kind.ErrorKind.ErrorKind}
+use Rattle.clap.specs.declared.{error.kind.ErrorKind.TheVariants.OutOfMemory, parser.matches.ArgMatches.ArgMatches}
+use Rattle.net_defs.specs.declared.{homes.HomeChoice.HomeChoice, timing.Timing.Timing}
 use Rattle.cmd_words.specs.Settings.{timing_by, banks_by, workers_by, homes_by}
-use Rattle.cmd_words.specs.declared.topic.Topic.{Topic}
-use Rattle.cmd_words.specs.Topics.{topic_of}
+use Rattle.cmd_words.specs.declared.command.WordNo.{WordNo, TheVariants.Usage, TheVariants.Memory}
+use Rattle.cmd_words.specs.{Arguments.Word, Arguments.dashes, Arguments.value_given, Asked.Values, declared.topic.Topic.Topic, Topics.topic_of}
 use Rattle.cmd_words.specs.Uses.{Found, parsed}
 
 -- ---- the command

@@ -1,5 +1,4 @@
-use Rattle.cover_sim.proofs.Beginnings.{marks_among, cut_begins}
-use Rattle.cover_sim.proofs.CoverLemmas.{simulated}
+use Rattle.cover_sim.proofs.{Beginnings.marks_among, Beginnings.cut_begins, CoverLemmas.simulated}
 use Rattle.cover_sim.proofs.marks_grow.Goals as goal
 
 pub returns-clause-grow : goal.returns-clause-grow

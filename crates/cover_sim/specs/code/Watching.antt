@@ -1,11 +1,9 @@
 -- Marks that are kept while a run goes on.
 use Rattle.std.specs.Prelude.{◌≡◌, ℕ, ◌-◌, ◌<◌, ◌≤◌, Bool, true, false, ◌&&◌, ◌||◌, List, [], length, Some, slice_get, slice_index_or}
-use Rattle.logic_four.specs.declared.V4.{V4}
 use Rattle.logic_four.specs.declared.V4.TheVariants.{Zero, One, Undef, HighZ}
-use Rattle.net_defs.specs.declared.netlist.Netlist.{Netlist}
-use Rattle.net_defs.specs.Time.{value_at}
-use Rattle.cover_sim.specs.declared.marks.Marks.{Marks}
-use Rattle.cover_sim.specs.Marks.{IsMarked}
+use Rattle.logic_four.specs.declared.V4.{V4}
+use Rattle.net_defs.specs.{declared.netlist.Netlist.Netlist, Time.value_at}
+use Rattle.cover_sim.specs.{declared.marks.Marks.Marks, Marks.IsMarked}
 
 abbrev pub is_zero : V4 → Bool
 is_zero Zero = true

@@ -2,11 +2,9 @@
 use Rattle.std.proofs.Common.{List, Option, Some, arith, length, slice_get, ℕ, ◌<◌, ◌^◌, ◌≡◌, ◌≤◌}
 use Rattle.std.proofs.lemmas.Option.{slice_get_within}
 use Rattle.list_laws.proofs.Places.{read_below}
-use Rattle.crew_run.specs.Crews.{AreReady, CanTell, CanTellOf}
-use Rattle.crew_run.specs.Lending.{AllAreReady, AllCanRunWith}
+use Rattle.crew_run.specs.{Crews.AreReady, Crews.CanTell, Crews.CanTellOf, Lending.AllAreReady, Lending.AllCanRunWith, declared.worker.Worker.Worker}
 use Rattle.crew_run.specs.declared.gate.Gate as gate
 use Rattle.crew_run.specs.declared.stepper.Stepper as stepper
-use Rattle.crew_run.specs.declared.worker.Worker.{Worker}
 
 module _ {S G : Type 0} (m : stepper.Ghosts S) (p : gate.Ghosts G) where
   pub can_tell_of : (members : List S) (gate : Option G) → AreReady m members → CanTell p gate → CanTellOf m p members gate

@@ -1,7 +1,6 @@
 -- Beside specs/Lending.antt, what only private functions and proofs cite.
 use Rattle.std.specs.Prelude.{List, Option, Some, length, slice_get, ℕ, ◌<◌, ◌≡◌, ◌≤◌}
-use Rattle.crew_run.specs.declared.worker.Worker.{Worker}
-use Rattle.crew_run.specs.Lending.{lent}
+use Rattle.crew_run.specs.{declared.worker.Worker.Worker, Lending.lent}
 
 module _ {S G : Type 0} where
   -- the first n workers have the gates in their places for their own, which stand there

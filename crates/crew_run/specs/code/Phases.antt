@@ -2,9 +2,7 @@
 use Rattle.std.specs.Prelude.{List, Some, length, min, slice_get, slice_index, ℕ, ◌+◌, ◌-◌, ◌<◌, ◌^◌, ◌≡◌, ◌≢◌, ◌≤◌}
 use Rattle.crew_run.specs.declared.gate.Gate as gate
 use Rattle.crew_run.specs.declared.stepper.Stepper as stepper
-use Rattle.crew_run.specs.declared.worker.Worker.{Worker}
-use Rattle.crew_run.specs.Crews.{AreReady, IsDone}
-use Rattle.crew_run.specs.Visits.{IsElsewhere, IsUntold}
+use Rattle.crew_run.specs.{declared.worker.Worker.Worker, Crews.AreReady, Crews.IsDone, Visits.IsElsewhere, Visits.IsUntold}
 
 module _ {S : Type 0} (m : stepper.Ghosts S) where
   -- the turn that the member began last, which is the one that its gate was told of last

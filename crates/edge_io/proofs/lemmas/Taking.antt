@@ -1,7 +1,6 @@
 -- What a sink has taken, write by write.
 use Rattle.std.proofs.Common.{◌≡◌, ℕ, ◌+◌, ◌-◌, List, ◌++◌, length, take, drop, Option, None, Some, refl, ap, ◌∙◌, sym, append_assoc}
-use Rattle.std.proofs.Math.Seq.{take-add}
-use Rattle.std.proofs.lemmas.List.{take_rest}
+use Rattle.std.proofs.{Math.Seq.take-add, lemmas.List.take_rest}
 use Rattle.std.specs.Io.KnownBytes.{append_known}
 
 -- one piece after another is both pieces joined

@@ -1,17 +1,10 @@
 -- Lemmas on what a sink has taken of pieces that are written one after the other.
 use Rattle.std.proofs.Common.{◌≡◌, ◌∙◌, sym, subst, ◌⊎◌, inl, inr, ℕ, ◌+◌, ◌-◌, ◌^◌, ◌<◌, ◌≤◌, List, [], ◌∷◌, ◌++◌, length, get_or, take, drop, Option, None, Some, ap, arith, refl, length-append, Result, Ok, Err}
-use Rattle.edge_io.specs.declared.writing.WriteNo.{WriteNo}
-use Rattle.std.specs.Io.KnownBytes.{append_known}
-use Rattle.std.proofs.Math.Seq.{take-append-add, take-length}
-use Rattle.std.proofs.lemmas.Bool.{cases_lt}
 use Rattle.std.proofs.lemmas.List.{append-nil, take_all, take_more, take-append-drop, take-append-le}
-use Rattle.std.proofs.lemmas.List.Concat.{flat_map-append}
+use Rattle.std.proofs.{Math.Seq.take-append-add, Math.Seq.take-length, lemmas.Bool.cases_lt, lemmas.List.Concat.flat_map-append, lemmas.Option.slice_get_cases}
+use Rattle.edge_io.specs.{declared.writing.WriteNo.WriteNo, Counts.Rose, Writing.Takes, Writing.TakesLine, Writing.TakesProperPrefix}
+use Rattle.std.specs.{Io.KnownBytes.append_known, Prelude.slice_get, Prelude.IfSome, List.flat_map}
 use Rattle.edge_io.proofs.lemmas.Taking.{append_known-append}
-use Rattle.edge_io.specs.Counts.{Rose}
-use Rattle.std.specs.Prelude.{slice_get, IfSome}
-use Rattle.std.specs.List.{flat_map}
-use Rattle.std.proofs.lemmas.Option.{slice_get_cases}
-use Rattle.edge_io.specs.Writing.{Takes, TakesLine, TakesProperPrefix}
 
 -- a count that rose since a later moment rose since an earlier one
 pub rose_since : (early late now : ℕ) → early ≤ late → late ≤ now → Rose late now → Rose early now

@@ -1,8 +1,6 @@
 -- Beside specs/FileCounts.antt, what only private functions and proofs cite.
 use Rattle.std.specs.Prelude.{◌≡◌, ℕ, ◌+◌, ◌≤◌, List, Result}
-use Rattle.edge_io.specs.Counts.{raised}
-use Rattle.edge_io.specs.declared.counts.FileCounts.{FileCounts}
-use Rattle.edge_io.specs.declared.reading.ReadNo.{ReadNo}
+use Rattle.edge_io.specs.{Counts.raised, declared.counts.FileCounts.FileCounts, declared.reading.ReadNo.ReadNo}
 use Rattle.edge_io.specs.FileCounts.{CountsFaults, is_failed, CountsGiven}
 
 -- reads to a file's end, or until one byte past the limit was given: only an answer of `Failed` comes of a call that failed, and of one

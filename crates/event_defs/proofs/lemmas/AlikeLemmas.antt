@@ -1,31 +1,19 @@
 -- Images that are linked alike make the same places and answers, whatever they compute.
 use Rattle.std.proofs.Common.{Bool, List, Some, ap, arith, eq-eqb, false, if◌then◌else◌, inl, inr, le-leb, nat_le, ne_eqb, refl, slice_get, subst, sym, true, ℕ, ◌%◌, ◌*◌, ◌+◌, ◌<◌, ◌==◌, ◌∙◌, ◌≡◌, ◌≤◌}
 use Rattle.std.proofs.lemmas.Bool.{cases_eq, false≢true, lt-leb}
-use Rattle.logic_four.specs.Values.{code_of}
-use Rattle.logic_four.specs.declared.V4.{V4}
-use Rattle.logic_four.specs.declared.V4.TheVariants.{Undef}
+use Rattle.logic_four.specs.{Values.code_of, declared.V4.V4, declared.V4.TheVariants.Undef}
 use Rattle.net_defs.specs.declared.stimulus.Stimulus.{Stimulus}
-use Rattle.image_defs.specs.Frames.{image_value}
-use Rattle.image_defs.specs.Places.{Each, IsPort}
-use Rattle.image_defs.specs.WellFormed.{IsWellFormed}
-use Rattle.image_defs.specs.declared.image.Image.{Image}
-use Rattle.image_defs.specs.declared.image.LinkIn.{LinkIn}
-use Rattle.image_defs.specs.declared.image.LinkOut.{LinkOut}
-use Rattle.image_defs.specs.declared.image.PortImage.{PortImage}
+use Rattle.image_defs.specs.{Frames.image_value, Places.Each, Places.IsPort, WellFormed.IsWellFormed, declared.image.Image.Image, declared.image.LinkIn.LinkIn}
+use Rattle.image_defs.specs.declared.image.{LinkOut.LinkOut, PortImage.PortImage}
 use Rattle.event_defs.proofs.lemmas.SlotLemmas.{updated_here, updated_same, updated_there}
-use Rattle.event_defs.proofs.lemmas.StampLemmas.{written_here, written_there}
-use Rattle.event_defs.proofs.lemmas.WordLemmas.{stamp_in}
-use Rattle.event_defs.specs.Linked.{ArePortsAlike}
+use Rattle.event_defs.proofs.lemmas.{StampLemmas.written_here, StampLemmas.written_there, WordLemmas.stamp_in}
 use Rattle.event_defs.specs.Next.{EndsNext, IsDoneBelow, IsNext, ReceivesNext, SendsNext}
 use Rattle.event_defs.specs.Places.{after_ask, after_put, after_take, after_tell, is_in}
-use Rattle.event_defs.specs.Sound.{IsSound}
 use Rattle.event_defs.specs.Steps.{CoreState, IsStep, Reads, stamp_of, updated, written}
-use Rattle.event_defs.specs.declared.place.Action.{Action}
-use Rattle.event_defs.specs.declared.place.CoreStep.{CoreStep}
-use Rattle.event_defs.specs.declared.place.Place.{Place}
+use Rattle.event_defs.specs.{Linked.ArePortsAlike, Sound.IsSound, declared.place.Action.Action, declared.place.CoreStep.CoreStep, declared.place.Place.Place}
+use Rattle.event_defs.specs.declared.place.CoreStep.TheVariants.{Moved, NotYet, Done}
 use Rattle.event_defs.specs.declared.place.Action.TheVariants as action
 use Rattle.event_defs.specs.declared.place.Event.TheVariants as event
-use Rattle.event_defs.specs.declared.place.CoreStep.TheVariants.{Moved, NotYet, Done}
 
 -- ---- what is next, by links alone
 

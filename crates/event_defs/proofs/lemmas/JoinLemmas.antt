@@ -1,12 +1,8 @@
 -- Steps after steps.
 use Rattle.std.proofs.Common.{List, [], add-zero, ap, arith, refl, subst, sym, zero-add, ℕ, ◌++◌, ◌+◌, ◌∷◌, ◌≡◌, ◌≤◌}
 use Rattle.net_defs.specs.declared.stimulus.Stimulus.{Stimulus}
-use Rattle.image_defs.specs.Places.{IsPort}
-use Rattle.image_defs.specs.declared.image.Image.{Image}
-use Rattle.image_defs.specs.declared.image.PortImage.{PortImage}
-use Rattle.event_defs.specs.Counts.{moved_in, moves}
-use Rattle.event_defs.specs.Steps.{AreSteps, CoreState, IsStep}
-use Rattle.event_defs.specs.declared.place.CoreStep.{CoreStep}
+use Rattle.image_defs.specs.{Places.IsPort, declared.image.Image.Image, declared.image.PortImage.PortImage}
+use Rattle.event_defs.specs.{Counts.moved_in, Counts.moves, Steps.AreSteps, Steps.CoreState, Steps.IsStep, declared.place.CoreStep.CoreStep}
 use Rattle.event_defs.specs.declared.place.CoreStep.TheVariants.{Done, Moved, NotYet}
 
 pub moved_join : (one other : List CoreStep) → moved_in (one ++ other) ≡ moved_in one + moved_in other

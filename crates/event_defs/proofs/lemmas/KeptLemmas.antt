@@ -1,27 +1,19 @@
 -- Each step keeps soundness; a Take has its own turn's value; a Put comes when the readers are near enough.
 use Rattle.std.proofs.Common.{List, [], ap, arith, inl, inr, length, mod-lt, refl, subst, sym, ℕ, ◌%◌, ◌*◌, ◌+◌, ◌-◌, ◌<◌, ◌∙◌, ◌∷◌, ◌≡◌, ◌≤◌, ◌⊎◌}
-use Rattle.std.proofs.lemmas.Bool.{cases_eq}
-use Rattle.std.proofs.lemmas.Option.{slice_get_within}
+use Rattle.std.proofs.lemmas.{Bool.cases_eq, Option.slice_get_within}
 use Rattle.logic_four.specs.Values.{code_of}
 use Rattle.net_defs.specs.declared.stimulus.Stimulus.{Stimulus}
-use Rattle.image_defs.specs.Frames.{image_value}
-use Rattle.image_defs.specs.Places.{IsPort, Stands}
-use Rattle.image_defs.specs.WellFormed.{IsWellFormed}
-use Rattle.image_defs.specs.declared.image.Image.{Image}
-use Rattle.image_defs.specs.declared.image.LinkOut.{LinkOut}
-use Rattle.image_defs.specs.declared.image.PortImage.{PortImage}
+use Rattle.image_defs.specs.{Frames.image_value, Places.IsPort, Places.Stands, WellFormed.IsWellFormed, declared.image.Image.Image}
+use Rattle.image_defs.specs.declared.image.{LinkOut.LinkOut, PortImage.PortImage}
 use Rattle.event_defs.proofs.lemmas.PaceLemmas.{CanStand, asks, latest_put, puts, reader_in, same_send, send_at, source, stands, starts, takes, tells}
-use Rattle.event_defs.proofs.lemmas.SlotLemmas.{each_updated, updated_here, updated_there}
 use Rattle.event_defs.proofs.lemmas.StampLemmas.{coded_put, stamped_put, stamped_still, starts_coded, starts_stamped}
+use Rattle.event_defs.proofs.lemmas.SlotLemmas.{each_updated, updated_here, updated_there}
 use Rattle.event_defs.proofs.lemmas.WordLemmas.{coded_is, found_stamp, stamp_in}
-use Rattle.event_defs.specs.Next.{PutsNext}
 use Rattle.event_defs.specs.Places.{IsSend, after_ask, after_put, after_take, after_tell, latest}
-use Rattle.event_defs.specs.Sound.{IsCoded, IsSound}
 use Rattle.event_defs.specs.Steps.{AreSteps, Asks, CoreState, IsStep, Puts, Reads, Takes, Tells, first_state, stamp_of, updated, written}
-use Rattle.event_defs.specs.declared.place.CoreStep.{CoreStep}
-use Rattle.event_defs.specs.declared.place.CoreStep.TheVariants.{Done, Moved, NotYet}
 use Rattle.event_defs.specs.declared.place.Event.TheVariants.{Ask, Put, Take, Tell}
-use Rattle.event_defs.specs.declared.place.Place.{Place}
+use Rattle.event_defs.specs.{Next.PutsNext, Sound.IsCoded, Sound.IsSound, declared.place.CoreStep.CoreStep}
+use Rattle.event_defs.specs.declared.place.{CoreStep.TheVariants.Done, CoreStep.TheVariants.Moved, CoreStep.TheVariants.NotYet, Place.Place}
 
 module _ (image : Image) (stimulus : Stimulus) (banks until : ℕ) (fits : IsWellFormed image) (some : 1 ≤ banks) where
   pub starts_sound : IsSound image stimulus banks until (first_state (length image.ports))

@@ -2,17 +2,12 @@
 use Rattle.std.proofs.Common.{List, ap, ap₂, arith, inl, inr, refl, subst, sym, ℕ, ◌∙◌, ◌≡◌}
 use Rattle.std.proofs.lemmas.Bool.{cases_order, false≢true}
 use Rattle.logic_four.specs.declared.V4.{V4}
-use Rattle.image_defs.specs.Places.{IsPort, Stands}
-use Rattle.image_defs.specs.WellFormed.{IsWellFormed}
-use Rattle.image_defs.specs.declared.image.Image.{Image}
-use Rattle.image_defs.specs.declared.image.LinkIn.{LinkIn}
-use Rattle.image_defs.specs.declared.image.LinkOut.{LinkOut}
-use Rattle.image_defs.specs.declared.image.PortImage.{PortImage}
+use Rattle.image_defs.specs.{Places.IsPort, Places.Stands, WellFormed.IsWellFormed, declared.image.Image.Image, declared.image.LinkIn.LinkIn}
+use Rattle.image_defs.specs.declared.image.{LinkOut.LinkOut, PortImage.PortImage}
 use Rattle.event_defs.proofs.lemmas.PaceLemmas.{same_receipt, same_send}
 use Rattle.event_defs.specs.Next.{AsksNext, EndsNext, IsNext, PutsNext, ReceivesNext, SendsNext, TakesNext}
-use Rattle.event_defs.specs.declared.place.Action.{Action}
 use Rattle.event_defs.specs.declared.place.Action.TheVariants.{Ask, Put, Take, Tell, Done}
-use Rattle.event_defs.specs.declared.place.Place.{Place}
+use Rattle.event_defs.specs.declared.place.{Action.Action, Place.Place}
 
 module _ (image : Image) (fits : IsWellFormed image) (p : ℕ) (port : PortImage) (is : IsPort image p port) where
   module _ (puts takes : List ℕ) where

@@ -1,22 +1,14 @@
 -- Each event keeps the places of all ports in pace. No value and no word stands here.
 use Rattle.std.proofs.Common.{List, Some, [], ap, arith, false, get_or, get_or-set_other, get_or-set_same, if◌then◌else◌, inl, inr, length, length-set, refl, replicate, slice_get, subst, sym, true, ℕ, ◌+◌, ◌-◌, ◌<◌, ◌∙◌, ◌≡◌, ◌≢◌, ◌≤◌}
-use Rattle.std.proofs.lemmas.Bool.{cases_eq, false≢true}
-use Rattle.std.proofs.lemmas.List.{get_or-replicate, length-replicate}
-use Rattle.std.proofs.lemmas.Option.{slice_get_within}
+use Rattle.std.proofs.lemmas.{Bool.cases_eq, Bool.false≢true, List.get_or-replicate, List.length-replicate, Option.slice_get_within}
 use Rattle.logic_four.specs.Gates.{is_one}
 use Rattle.image_defs.proofs.lemmas.PlaceLemmas.{rises}
 use Rattle.image_defs.specs.Places.{IsPort, Stands, in_slots, out_slots}
-use Rattle.image_defs.specs.WellFormed.{IsLinkIn, IsLinkOut, IsWellFormed}
-use Rattle.image_defs.specs.declared.image.Image.{Image}
-use Rattle.image_defs.specs.declared.image.LinkIn.{LinkIn}
-use Rattle.image_defs.specs.declared.image.LinkOut.{LinkOut}
-use Rattle.image_defs.specs.declared.image.PortImage.{PortImage}
+use Rattle.image_defs.specs.{WellFormed.IsLinkIn, WellFormed.IsLinkOut, WellFormed.IsWellFormed, declared.image.Image.Image, declared.image.LinkIn.LinkIn}
+use Rattle.image_defs.specs.declared.image.{LinkOut.LinkOut, PortImage.PortImage}
 use Rattle.event_defs.proofs.lemmas.SlotLemmas.{each_more, each_updated, in_last, in_other, once_more, same_index, to_map, updated_there}
-use Rattle.event_defs.specs.Next.{EndsNext}
 use Rattle.event_defs.specs.Places.{IsSend, after_ask, after_put, after_take, after_tell, is_in, known_of, latest, start}
-use Rattle.event_defs.specs.Sound.{ArePaced, IsPlaceOf, KeepsPace}
-use Rattle.event_defs.specs.Steps.{updated}
-use Rattle.event_defs.specs.declared.place.Place.{Place}
+use Rattle.event_defs.specs.{Next.EndsNext, Sound.ArePaced, Sound.IsPlaceOf, Sound.KeepsPace, Steps.updated, declared.place.Place.Place}
 
 -- a place that has put and taken nothing in its turn
 begins : (port : PortImage) (until turn : ℕ) (known : List ℕ) → 1 ≤ turn → turn ≤ until + 1 → IsPlaceOf port until (record { turn = turn; puts = []; takes = []; known = known })

@@ -1,21 +1,12 @@
 -- The row of words, and the words as a function of port, send and bank.
 use Rattle.std.proofs.Common.{Bool, List, ap, arith, false, get_or, get_or-set_other, get_or-set_same, if◌then◌else◌, inl, inr, le_refl, length, lt-ltb, ltb-true, mul-le-mul_right, nat_lt, refl, replicate, set, slice_index_or, slice_set, subst, suc, suc-mul, sym, true, zero, ℕ, ◌&&◌, ◌*◌, ◌+◌, ◌/◌, ◌<◌, ◌∙◌, ◌≡◌, ◌≤◌}
-use Rattle.std.proofs.Math.Path.{fun_ext}
 use Rattle.std.proofs.lemmas.Bool.{and_from, and_parts, cases_eq, cases_order}
-use Rattle.std.proofs.lemmas.Nat.{div-mul-add}
-use Rattle.std.proofs.lemmas.Option.{slice_get_within}
+use Rattle.std.proofs.{Math.Path.fun_ext, lemmas.Nat.div-mul-add, lemmas.Option.slice_get_within}
 use Rattle.list_laws.proofs.Ranges.{replicate_read}
-use Rattle.image_defs.specs.Places.{IsPort}
-use Rattle.image_defs.specs.declared.image.Image.{Image}
-use Rattle.image_defs.specs.declared.image.LinkOut.{LinkOut}
-use Rattle.image_defs.specs.declared.image.PortImage.{PortImage}
-use Rattle.event_defs.proofs.lemmas.PaceLemmas.{inside}
-use Rattle.event_defs.proofs.lemmas.SlotLemmas.{updated_here, updated_there}
-use Rattle.event_defs.proofs.lemmas.StampLemmas.{written_here, written_there}
-use Rattle.event_defs.specs.Counts.{of_port, sum_to}
-use Rattle.event_defs.specs.Places.{IsSend}
+use Rattle.image_defs.specs.{Places.IsPort, declared.image.Image.Image, declared.image.LinkOut.LinkOut, declared.image.PortImage.PortImage}
+use Rattle.event_defs.proofs.lemmas.{PaceLemmas.inside, SlotLemmas.updated_here, SlotLemmas.updated_there, StampLemmas.written_here, StampLemmas.written_there}
 use Rattle.event_defs.specs.Row.{send_count, send_number, sends_before, sends_of, word_in, word_place}
-use Rattle.event_defs.specs.Steps.{updated, written}
+use Rattle.event_defs.specs.{Counts.of_port, Counts.sum_to, Places.IsSend, Steps.updated, Steps.written}
 
 -- one value of a list is one value of the function
 pub set_updated : {X : Type 0} (xs : List X) (p : ℕ) (x d : X) → p < length xs → ◌≡◌ {A = ℕ → X} (λ q. slice_index_or (slice_set xs p x) q d) (updated (λ q. slice_index_or xs q d) p x)

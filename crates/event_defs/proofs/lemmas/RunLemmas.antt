@@ -1,35 +1,26 @@
 -- The number of events of a run: at most its number, and with one bank exactly so many.
 use Rattle.std.proofs.Common.{Bool, List, None, Option, Some, [], ap, ap₂, arith, eqb-true, false, get_or, get_or-set_other, get_or-set_same, if◌then◌else◌, inl, inr, le-leb, le_of_eq, length, mul-one, mul-zero, nat_le, refl, replicate, set, slice_get, subst, suc, sym, true, zero, zero-add, zero-mul, ℕ, ◌*◌, ◌+◌, ◌-◌, ◌<◌, ◌==◌, ◌∙◌, ◌∷◌, ◌≡◌, ◌≤◌, ◌⊎◌}
 use Rattle.std.proofs.lemmas.Bool.{cases_eq, cases_lt, false≢true, lt-leb}
-use Rattle.std.proofs.lemmas.List.{get_or-replicate, length-map}
-use Rattle.std.proofs.lemmas.List.Folds.{list_any_at}
-use Rattle.std.proofs.lemmas.Option.{get_or_from_slice_get, slice_get_within}
+use Rattle.std.proofs.lemmas.{List.get_or-replicate, List.length-map, List.Folds.list_any_at, Option.get_or_from_slice_get, Option.slice_get_within}
 use Rattle.std.specs.List.{range_with_len}
 use Rattle.list_laws.proofs.Ranges.{range_get}
 use Rattle.net_defs.specs.declared.stimulus.Stimulus.{Stimulus}
 use Rattle.image_defs.proofs.lemmas.PlaceLemmas.{rises}
 use Rattle.image_defs.specs.Places.{IsPort, Stands, in_slots, out_slots}
-use Rattle.image_defs.specs.WellFormed.{IsWellFormed}
-use Rattle.image_defs.specs.declared.image.Image.{Image}
-use Rattle.image_defs.specs.declared.image.LinkIn.{LinkIn}
-use Rattle.image_defs.specs.declared.image.LinkOut.{LinkOut}
+use Rattle.image_defs.specs.{WellFormed.IsWellFormed, declared.image.Image.Image, declared.image.LinkIn.LinkIn, declared.image.LinkOut.LinkOut}
 use Rattle.image_defs.specs.declared.image.PortImage.{PortImage}
 use Rattle.event_defs.proofs.CountLemmas.{ask_falls, from_other, from_test, product, put_falls, take_falls, tell_falls}
-use Rattle.event_defs.proofs.lemmas.KeptLemmas.{starts_sound, step_sound, steps_sound}
 use Rattle.event_defs.proofs.lemmas.PaceLemmas.{latest_missing, reader_in, same_port, same_send, send_at, stands}
-use Rattle.event_defs.proofs.lemmas.RowLemmas.{sum_grows}
 use Rattle.event_defs.proofs.lemmas.SlotLemmas.{any_at, each_updated, in_at, in_other, updated_here, updated_there}
-use Rattle.event_defs.proofs.StuckLemmas.{all_done}
 use Rattle.event_defs.proofs.SumLemmas.{all_missing, sum_add, sum_falls, sum_same, sum_times, sum_zero}
+use Rattle.event_defs.proofs.lemmas.{KeptLemmas.starts_sound, KeptLemmas.step_sound, KeptLemmas.steps_sound, RowLemmas.sum_grows}
+use Rattle.event_defs.proofs.StuckLemmas.{all_done}
 use Rattle.event_defs.specs.Counts.{asks_left, events, events_left, is_read_by, missing, moved_in, moves, of_port, port_left, readers_of, work_left, work_of}
 use Rattle.event_defs.specs.Places.{IsSend, after_ask, after_put, after_take, after_tell, is_in, known_of, start}
-use Rattle.event_defs.specs.Sound.{IsSound}
 use Rattle.event_defs.specs.Steps.{AllDone, AreFirstSteps, AreRounds, AreSteps, Asks, CoreState, IsRound, IsStep, Moves, Puts, Takes, Tells, Waits, first_state, updated}
-use Rattle.event_defs.specs.declared.place.CoreStep.{CoreStep}
-use Rattle.event_defs.specs.declared.place.CoreStep.TheVariants.{Done, Moved, NotYet}
-use Rattle.event_defs.specs.declared.place.Event.{Event}
 use Rattle.event_defs.specs.declared.place.Event.TheVariants.{Ask, Put, Take, Tell}
-use Rattle.event_defs.specs.declared.place.Place.{Place}
+use Rattle.event_defs.specs.{Sound.IsSound, declared.place.CoreStep.CoreStep}
+use Rattle.event_defs.specs.declared.place.{CoreStep.TheVariants.Done, CoreStep.TheVariants.Moved, CoreStep.TheVariants.NotYet, Event.Event, Place.Place}
 
 -- what a port knows of its readers: all turns but this one and the last few, as many as banks; and of those to
 -- which it has put in this turn one turn more

@@ -1,15 +1,13 @@
 -- Slots among others, links by their slots, and functions that are changed at one number.
 use Rattle.std.proofs.Common.{AllPairs, Bool, List, Some, [], ap, arith, eq-eqb, false, get_or, if◌then◌else◌, inl, inr, map, ne_eqb, option_map, refl, slice_get, subst, suc, sym, true, zero, ℕ, ◌++◌, ◌<◌, ◌==◌, ◌∙◌, ◌∷◌, ◌≡◌, ◌≢◌}
-use Rattle.std.proofs.Math.Path.{fun_ext}
 use Rattle.std.proofs.lemmas.Bool.{cases_eq, cases_order, false≢true, or_cases}
-use Rattle.std.proofs.lemmas.List.Folds.{list_any-append, list_any_at}
+use Rattle.std.proofs.{Math.Path.fun_ext, lemmas.List.Folds.list_any-append, lemmas.List.Folds.list_any_at}
 use Rattle.std.proofs.lemmas.Option.{get_or_from_slice_get, slice_get-map, slice_get_within}
 use Rattle.std.specs.List.{list_any}
 use Rattle.list_laws.proofs.Differ.{differ_push}
 use Rattle.image_defs.proofs.lemmas.PlaceLemmas.{Rises}
 use Rattle.image_defs.specs.Places.{Each}
-use Rattle.event_defs.specs.Places.{is_in}
-use Rattle.event_defs.specs.Steps.{updated}
+use Rattle.event_defs.specs.{Places.is_in, Steps.updated}
 
 pub updated_here : {X : Type 0} (f : ℕ → X) (p : ℕ) (x : X) → updated f p x p ≡ x
 updated_here f p x = ap (λ b. if b then x else f p) (eq-eqb p p refl)

@@ -2,20 +2,15 @@
 -- of their codes, without a place.
 use Rattle.std.proofs.Common.{ap, arith, false, inl, inr, length, refl, subst, sym, ℕ, ◌%◌, ◌*◌, ◌+◌, ◌-◌, ◌<◌, ◌∙◌, ◌≡◌, ◌≤◌}
 use Rattle.std.proofs.lemmas.Bool.{cases_eq}
-use Rattle.logic_four.specs.Values.{code_of}
-use Rattle.logic_four.specs.declared.V4.{V4}
+use Rattle.logic_four.specs.{Values.code_of, declared.V4.V4}
 use Rattle.net_defs.specs.declared.stimulus.Stimulus.{Stimulus}
-use Rattle.image_defs.specs.Frames.{image_value}
-use Rattle.image_defs.specs.WellFormed.{IsWellFormed}
-use Rattle.image_defs.specs.declared.image.Image.{Image}
-use Rattle.image_defs.specs.declared.image.LinkOut.{LinkOut}
+use Rattle.image_defs.specs.{Frames.image_value, WellFormed.IsWellFormed, declared.image.Image.Image, declared.image.LinkOut.LinkOut}
 use Rattle.event_defs.proofs.lemmas.PaceLemmas.{latest_here, latest_missing, latest_there, one_send, same_send}
-use Rattle.event_defs.proofs.lemmas.SlotLemmas.{each_updated, updated_here, updated_there}
 use Rattle.event_defs.proofs.lemmas.WordLemmas.{first_coded, first_stamps, put_coded, put_stamps}
+use Rattle.event_defs.proofs.lemmas.SlotLemmas.{each_updated, updated_here, updated_there}
 use Rattle.event_defs.specs.Places.{IsSend, after_put, is_in, latest, start}
 use Rattle.event_defs.specs.Sound.{AreCoded, AreStamped, AreStamps, IsCoded}
-use Rattle.event_defs.specs.Steps.{stamp_of, updated, written}
-use Rattle.event_defs.specs.declared.place.Place.{Place}
+use Rattle.event_defs.specs.{Steps.stamp_of, Steps.updated, Steps.written, declared.place.Place.Place}
 
 -- the words of one send, where a word of some send has been written
 pub written_there : (word : ℕ → ℕ → ℕ → ℕ) (p i b x q j : ℕ) → ((q ≡ p) × (j ≡ i) → ⊥) → written word p i b x q j ≡ word q j

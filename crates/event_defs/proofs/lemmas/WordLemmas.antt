@@ -1,15 +1,11 @@
 -- The words of a send, bank by bank: what a Put makes of them and what a reader finds, first by the turns that
 -- they name and then by their codes.
 use Rattle.std.proofs.Common.{ap, ap₂, arith, div-add-mod', inl, inr, mul-le-mul_right, refl, suc, suc-mul, sym, ℕ, ◌%◌, ◌*◌, ◌+◌, ◌-◌, ◌/◌, ◌<◌, ◌∙◌, ◌≡◌, ◌≢◌, ◌≤◌, ◌⊎◌}
-use Rattle.std.proofs.Math.Nat.{add-mod_right}
-use Rattle.std.proofs.lemmas.Bool.{cases_eq, cases_lt}
-use Rattle.std.proofs.lemmas.Nat.{div-mul-add, mod-mul-add}
+use Rattle.std.proofs.{Math.Nat.add-mod_right, lemmas.Bool.cases_eq, lemmas.Bool.cases_lt, lemmas.Nat.div-mul-add, lemmas.Nat.mod-mul-add}
 use Rattle.logic_four.proofs.lemmas.CodeLemmas.{code_of_small, value_of-code_of}
-use Rattle.logic_four.specs.Values.{code_of, value_of}
-use Rattle.logic_four.specs.declared.V4.{V4}
+use Rattle.logic_four.specs.{Values.code_of, Values.value_of, declared.V4.V4}
 use Rattle.event_defs.proofs.lemmas.SlotLemmas.{updated_here, updated_there}
-use Rattle.event_defs.specs.Sound.{AreStamps, IsCoded}
-use Rattle.event_defs.specs.Steps.{stamp_of, updated}
+use Rattle.event_defs.specs.{Sound.AreStamps, Sound.IsCoded, Steps.stamp_of, Steps.updated}
 
 -- ---- turns and codes of a word
 

@@ -1,9 +1,7 @@
 -- Beside specs/Sources.antt, what only private functions and proofs cite.
 use Rattle.std.specs.Prelude.{List, Some, length, slice_get, ℕ, ◌+◌, ◌<◌, ◌≡◌, ◌≤◌}
-use Rattle.image_defs.specs.declared.image.Image.{Image}
-use Rattle.image_defs.specs.declared.image.LinkOut.{LinkOut}
-use Rattle.event_defs.specs.Row.{sends_before}
-use Rattle.event_defs.specs.Sources.{AreFirsts}
+use Rattle.image_defs.specs.declared.image.{Image.Image, LinkOut.LinkOut}
+use Rattle.event_defs.specs.{Row.sends_before, Sources.AreFirsts}
 
 -- the link of this slot has this number
 pub record IsLinkAt (outs : List LinkOut) (slot i : ℕ) : Type 0 where

@@ -1,8 +1,6 @@
 -- Beside specs/Faults.antt, what only private functions and proofs cite.
 use Rattle.std.specs.Prelude.{ℕ, List, ◌∷◌, if◌then◌else◌}
-use Rattle.net_defs.specs.declared.netlist.Netlist.{Netlist}
-use Rattle.net_defs.specs.Loops.{is_gate}
-use Rattle.net_defs.specs.declared.faults.Fault.{Fault}
+use Rattle.net_defs.specs.{declared.netlist.Netlist.Netlist, Loops.is_gate, declared.faults.Fault.Fault}
 
 -- an order of the gates of the faulty netlist: the stuck signal counts as a gate there, one that waits
 -- for nothing

@@ -2,13 +2,8 @@
 use Rattle.std.specs.Prelude.{◌<◌, ◌≡◌, ℕ, List, length, Some, slice_get, All, IfOk}
 use Rattle.std.specs.List.{flat_map}
 use Rattle.wide_planes.specs.declared.TheConstants.{WIDE_LANES}
-use Rattle.net_defs.specs.declared.netlist.Netlist.{Netlist}
-use Rattle.net_defs.specs.declared.timing.Timing.{Timing}
-use Rattle.net_defs.specs.declared.stimulus.Stimulus.{Stimulus}
-use Rattle.net_defs.specs.declared.faults.Fault.{Fault}
-use Rattle.fault_sim.specs.declared.all.Group.{Group}
-use Rattle.fault_sim.specs.Faults.{IsFault}
-use Rattle.fault_sim.specs.Verdicts.{AreVerdicts}
+use Rattle.net_defs.specs.declared.{netlist.Netlist.Netlist, timing.Timing.Timing, stimulus.Stimulus.Stimulus, faults.Fault.Fault}
+use Rattle.fault_sim.specs.{declared.all.Group.Group, Faults.IsFault, Verdicts.AreVerdicts}
 
 -- the faults fit into the lanes beside the good design
 pub record IsGroup (net : Netlist) (group : Group) : Type 0 where

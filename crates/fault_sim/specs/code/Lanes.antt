@@ -1,16 +1,11 @@
 -- Many runs side by side: the good design in lane 0, and a fault in each further lane.
 use Rattle.std.specs.Prelude.{◌≡◌, ℕ, zero, suc, ◌≤◌, ◌==◌, false, if◌then◌else◌, List, [], ◌∷◌, length, map, Option, Some, None, slice_get, slice_index_or}
-use Rattle.logic_four.specs.declared.V4.{V4}
-use Rattle.logic_four.specs.declared.Kind.{Kind}
-use Rattle.logic_four.specs.Gates.{gate_value}
 use Rattle.logic_four.specs.declared.V4.TheVariants.{Zero, One, Undef, HighZ}
+use Rattle.logic_four.specs.{declared.V4.V4, declared.Kind.Kind, Gates.gate_value}
 use Rattle.wide_planes.specs.Lanes as wide
 use Rattle.wide_planes.specs.declared.planes.Wide.{Wide}
-use Rattle.fault_sim.specs.declared.wires.Lanes.{Lanes}
-use Rattle.net_defs.specs.declared.netlist.Netlist.{Netlist}
-use Rattle.net_defs.specs.Time.{value_at}
-use Rattle.net_defs.specs.declared.faults.Fault.{Fault}
-use Rattle.fault_sim.specs.declared.force.Forces.{Forces}
+use Rattle.fault_sim.specs.declared.{wires.Lanes.Lanes, force.Forces.Forces}
+use Rattle.net_defs.specs.{declared.netlist.Netlist.Netlist, Time.value_at, declared.faults.Fault.Fault}
 
 -- the value of a lane of a place, and those of a row
 abbrev pub lane_of : Lanes → ℕ → V4

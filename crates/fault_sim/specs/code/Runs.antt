@@ -3,20 +3,11 @@ use Rattle.std.specs.Prelude.{◌≡◌, ℕ, ◌+◌, ◌<◌, ◌≤◌, Bool,
 use Rattle.std.specs.List.{list_all}
 use Rattle.limits.specs.declared.TheConstants.{MAX_CYCLES}
 use Rattle.logic_four.specs.declared.V4.{V4}
-use Rattle.fault_sim.specs.declared.wires.Lanes.{Lanes}
-use Rattle.wide_planes.specs.declared.TheConstants.{WIDE_LANES}
-use Rattle.wide_planes.specs.declared.planes.Words.{Words}
-use Rattle.wide_planes.specs.Lanes.{bit_of}
-use Rattle.fault_sim.specs.code.Lanes.{lane_row}
-use Rattle.net_defs.specs.declared.netlist.Netlist.{Netlist}
-use Rattle.net_defs.specs.declared.timing.Timing.{Timing}
-use Rattle.net_defs.specs.Time.{value_at}
-use Rattle.net_defs.specs.Steps.{State, values_of}
-use Rattle.net_defs.specs.Trace.{cells_of}
-use Rattle.fault_sim.specs.declared.faults.Verdict.{Verdict}
-use Rattle.fault_sim.specs.declared.faults.Verdict.TheVariants.{Seen, Unseen}
-use Rattle.fault_sim.specs.Lines.{is_detected}
+use Rattle.fault_sim.specs.{declared.wires.Lanes.Lanes, code.Lanes.lane_row, declared.faults.Verdict.Verdict}
+use Rattle.fault_sim.specs.{declared.faults.Verdict.TheVariants.Seen, declared.faults.Verdict.TheVariants.Unseen, Lines.is_detected}
 use Rattle.fault_sim.specs.Verdicts.{differs, Judges}
+use Rattle.wide_planes.specs.{declared.TheConstants.WIDE_LANES, declared.planes.Words.Words, Lanes.bit_of}
+use Rattle.net_defs.specs.{declared.netlist.Netlist.Netlist, declared.timing.Timing.Timing, Time.value_at, Steps.State, Steps.values_of, Trace.cells_of}
 
 -- the values of two rows at a printed name tell the fault
 abbrev pub differs_in : Netlist → List V4 → List V4 → ℕ → Bool

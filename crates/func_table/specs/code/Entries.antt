@@ -1,9 +1,6 @@
 -- Beside specs/Entries.antt, what only private functions and proofs cite.
 use Rattle.std.specs.Prelude.{ℕ, ◌/◌, ◌%◌, List, [], ◌∷◌, take}
-use Rattle.logic_four.specs.declared.V4.{V4}
-use Rattle.logic_four.specs.declared.Kind.{Kind}
-use Rattle.logic_four.specs.Values.{value_of}
-use Rattle.logic_four.specs.Gates.{gate_value}
+use Rattle.logic_four.specs.{declared.V4.V4, declared.Kind.Kind, Values.value_of, Gates.gate_value}
 
 -- the four operands for which entry e is
 abbrev pub operands_at : ℕ → List V4

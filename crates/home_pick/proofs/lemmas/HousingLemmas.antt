@@ -4,16 +4,12 @@ use Rattle.std.proofs.Common.{◌≡◌, ◌∙◌, ℕ, zero, suc, ◌+◌, ◌
 use Rattle.std.proofs.lemmas.List.{ext_get_or}
 use Rattle.list_laws.proofs.Members.{member_at}
 use Rattle.machine_text.specs.declared.machine.Machine.{Machine}
-use Rattle.node_defs.specs.declared.items.Item.{Item}
 use Rattle.node_defs.specs.declared.items.Item.TheVariants.{Input, BlockBit, Node, Latch}
-use Rattle.node_defs.specs.declared.items.NodeNet.{NodeNet}
-use Rattle.node_defs.specs.WellFormed.{IsComputed}
-use Rattle.plan_defs.specs.declared.plan.Homes.{Homes}
-use Rattle.plan_defs.specs.Homes.{home_of}
+use Rattle.node_defs.specs.{declared.items.Item.Item, declared.items.NodeNet.NodeNet, WellFormed.IsComputed}
 use Rattle.plan_defs.specs.Picks.{bits_of, bit_limit, LacksRoom, AreHoused, FindsNoPort, IsInTurn, HasPickedHome, ArePicked}
+use Rattle.plan_defs.specs.{declared.plan.Homes.Homes, Homes.home_of}
 use Rattle.plan_defs.proofs.lemmas.PlanLemmas.{least_one, least_same}
-use Rattle.home_pick.proofs.FillLemmas.{bits_same}
-use Rattle.home_pick.proofs.TurnLemmas.{turn_one}
+use Rattle.home_pick.proofs.{FillLemmas.bits_same, TurnLemmas.turn_one}
 
 module _ (nodes : NodeNet) (machine : Machine) (xs ys : List ℕ) (n m : ℕ) (one : AreHoused nodes machine xs n) (other : AreHoused nodes machine ys m) where
   -- what lacks room rests on the memories before

@@ -2,12 +2,8 @@
 use Rattle.std.specs.Prelude.{◌≡◌, ℕ, ◌+◌, ◌<◌, ◌==◌, nat_lt, if◌then◌else◌, List, length, slice_index}
 use Rattle.std.specs.List.{fold, sum_by, range_with_len}
 use Rattle.node_defs.specs.declared.items.NodeNet.{NodeNet}
-use Rattle.plan_defs.specs.declared.plan.Homes.{Homes}
-use Rattle.plan_defs.specs.Homes.{home_of, block_home, host_of}
-use Rattle.home_pick.specs.declared.bags.Entry.{Entry}
-use Rattle.home_pick.specs.Bags.{flag, where_at}
-use Rattle.home_pick.specs.code.Bags.{times}
-use Rattle.home_pick.specs.Crossings.{times_in, block_uses, uses_by}
+use Rattle.plan_defs.specs.{declared.plan.Homes.Homes, Homes.home_of, Homes.block_home, Homes.host_of}
+use Rattle.home_pick.specs.{declared.bags.Entry.Entry, Bags.flag, Bags.where_at, code.Bags.times, Crossings.times_in, Crossings.block_uses, Crossings.uses_by}
 use Rattle.home_pick.specs.code.Uses.{bag_at, AreBags}
 
 -- the uses of item i at the port but for those by node v

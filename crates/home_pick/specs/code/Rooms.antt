@@ -1,13 +1,10 @@
 -- What is left at the ports, and the ports so far.
 use Rattle.std.specs.Prelude.{◌≡◌, ◌⊎◌, ℕ, ◌+◌, ◌%◌, ◌<◌, ◌≤◌, List, length, map, Some, slice_get, slice_index}
 use Rattle.std.specs.List.{sum, range_with_len}
-use Rattle.machine_text.specs.declared.machine.Limited.{Limited}
-use Rattle.machine_text.specs.declared.machine.Machine.{Machine}
-use Rattle.machine_text.specs.Limits.{limit_at}
-use Rattle.node_defs.specs.declared.items.Item.{Item}
-use Rattle.node_defs.specs.declared.items.NodeNet.{NodeNet}
-use Rattle.plan_defs.specs.declared.plan.Homes.{Homes}
+use Rattle.machine_text.specs.{declared.machine.Limited.Limited, declared.machine.Machine.Machine, Limits.limit_at}
+use Rattle.node_defs.specs.declared.items.{Item.Item, NodeNet.NodeNet}
 use Rattle.plan_defs.specs.Picks.{bit_limit, bits_before, node_limit, node_room, nodes_before, AreHoused, HasPickedHome}
+use Rattle.plan_defs.specs.declared.plan.Homes.{Homes}
 use Rattle.home_pick.specs.declared.blocks.Filling.{Filling}
 
 -- the limits that hold at so many ports, from port 0 on

@@ -2,8 +2,7 @@
 use Rattle.std.specs.Prelude.{◌≡◌, ◌≢◌, ◌<◌, ℕ, Bool, true, false, List, length, slice_index_or}
 use Rattle.node_defs.specs.declared.items.NodeNet.{NodeNet}
 use Rattle.plan_defs.specs.declared.plan.Homes.{Homes}
-use Rattle.home_pick.specs.Crossings.{uses_at}
-use Rattle.home_pick.specs.code.Moves.{others_at}
+use Rattle.home_pick.specs.{Crossings.uses_at, code.Moves.others_at}
 
 -- each item that is marked is used at each logic port
 pub record AreSpread (nodes : NodeNet) (homes : Homes) (spread : List Bool) : Type 0 where

@@ -1,11 +1,8 @@
 -- Lists of bags: what they hold, and how they change.
 use Rattle.std.specs.Prelude.{◌≡◌, ℕ, ◌+◌, ◌<◌, ◌≤◌, List, [], length, slice_index_or}
-use Rattle.node_defs.specs.declared.items.Item.{Item}
-use Rattle.node_defs.specs.declared.items.NodeNet.{NodeNet}
+use Rattle.node_defs.specs.declared.items.{Item.Item, NodeNet.NodeNet}
 use Rattle.plan_defs.specs.declared.plan.Homes.{Homes}
-use Rattle.home_pick.specs.declared.bags.Entry.{Entry}
-use Rattle.home_pick.specs.code.Bags.{times, IsBag}
-use Rattle.home_pick.specs.Crossings.{item_uses, uses_by, uses_at}
+use Rattle.home_pick.specs.{declared.bags.Entry.Entry, code.Bags.times, code.Bags.IsBag, Crossings.item_uses, Crossings.uses_by, Crossings.uses_at}
 
 -- the bag at a place
 abbrev pub bag_at : List (List Entry) → ℕ → List Entry

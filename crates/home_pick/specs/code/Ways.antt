@@ -2,8 +2,7 @@
 use Rattle.std.specs.Prelude.{ℕ}
 use Rattle.machine_text.specs.declared.machine.Machine.{Machine}
 use Rattle.node_defs.specs.declared.items.NodeNet.{NodeNet}
-use Rattle.plan_defs.specs.declared.plan.Homes.{Homes}
-use Rattle.plan_defs.specs.Homes.{AreHomes}
+use Rattle.plan_defs.specs.{declared.plan.Homes.Homes, Homes.AreHomes}
 use Rattle.home_pick.specs.Better.{KeepsOthers, IsFilled, IsWithin}
 
 -- homes to which nodes can have moved from the start, no port being filled past the bound and its own limit

@@ -3,9 +3,7 @@ use Rattle.std.specs.Prelude.{◌≡◌, ℕ, ◌+◌, ◌<◌, ◌==◌, nat_lt
 use Rattle.machine_text.specs.declared.machine.Machine.{Machine}
 use Rattle.node_defs.specs.declared.items.NodeNet.{NodeNet}
 use Rattle.plan_defs.specs.declared.plan.Homes.{Homes}
-use Rattle.home_pick.specs.declared.bags.Entry.{Entry}
-use Rattle.home_pick.specs.Bags.{flag}
-use Rattle.home_pick.specs.Better.{load_at, most_at}
+use Rattle.home_pick.specs.{declared.bags.Entry.Entry, Bags.flag, Better.load_at, Better.most_at}
 
 -- the nodes at each logic port
 pub record AreLoads (nodes : NodeNet) (homes : Homes) (loads : List ℕ) : Type 0 where

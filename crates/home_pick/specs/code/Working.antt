@@ -2,13 +2,8 @@
 use Rattle.std.specs.Prelude.{◌≡◌, ℕ, length}
 use Rattle.node_defs.specs.declared.items.NodeNet.{NodeNet}
 use Rattle.plan_defs.specs.Homes.{AreHomes}
-use Rattle.home_pick.specs.declared.moves.Work.{Work}
-use Rattle.home_pick.specs.Crossings.{crossings}
-use Rattle.home_pick.specs.code.Moves.{pull_at, AreLowered, AreUsesWithout}
-use Rattle.home_pick.specs.code.Spread.{AreSpread, AreSpreadWithout}
-use Rattle.home_pick.specs.code.Touched.{AreTouched}
-use Rattle.home_pick.specs.code.Uses.{AreUses}
-use Rattle.home_pick.specs.code.Work.{AreLoads}
+use Rattle.home_pick.specs.{declared.moves.Work.Work, Crossings.crossings, code.Moves.pull_at, code.Moves.AreLowered, code.Moves.AreUsesWithout}
+use Rattle.home_pick.specs.code.{Spread.AreSpread, Spread.AreSpreadWithout, Touched.AreTouched, Uses.AreUses, Work.AreLoads}
 
 -- the uses, loads and crossings are those of the homes
 pub record IsWork (nodes : NodeNet) (work : Work) : Type 0 where

@@ -2,34 +2,16 @@
 use Rattle.std.specs.Prelude.{◌≡◌, ℕ, ◌==◌, ◌<◌, ◌≤◌, Bool, true, false, if◌then◌else◌, List, length, map, Some, slice_get}
 use Rattle.net_defs.specs.declared.timing.Timing.{Timing}
 use Rattle.func_table.specs.declared.table.Table.{Table}
-use Rattle.node_defs.specs.declared.items.Feed.{Feed}
-use Rattle.node_defs.specs.declared.items.Feed.TheVariants.{From, Fixed}
-use Rattle.node_defs.specs.declared.items.Item.{Item}
-use Rattle.node_defs.specs.declared.items.Item.TheVariants as item
-use Rattle.node_defs.specs.declared.items.NodeBlock.{NodeBlock}
-use Rattle.node_defs.specs.declared.items.NodeNet.{NodeNet}
+use Rattle.node_defs.specs.declared.items.{Feed.Feed, Feed.TheVariants.From, Feed.TheVariants.Fixed, Item.Item, NodeBlock.NodeBlock, NodeNet.NodeNet}
 use Rattle.node_defs.specs.WellFormed.{column_count}
-use Rattle.image_defs.specs.declared.image.Source.{Source}
-use Rattle.image_defs.specs.declared.image.Source.TheVariants.{Own, Got, Const}
-use Rattle.image_defs.specs.declared.image.Task.{Task}
-use Rattle.image_defs.specs.declared.image.Task.TheVariants.{Eval, Hold}
-use Rattle.image_defs.specs.declared.image.BlockWork.{BlockWork}
-use Rattle.image_defs.specs.declared.image.OutBit.{OutBit}
-use Rattle.image_defs.specs.declared.image.InColumn.{InColumn}
-use Rattle.image_defs.specs.declared.image.Work.{Work}
-use Rattle.image_defs.specs.declared.image.Work.TheVariants.{Logic, Array, Host}
-use Rattle.image_defs.specs.declared.image.PortImage.{PortImage}
-use Rattle.image_defs.specs.declared.image.Image.{Image}
-use Rattle.image_defs.specs.Places.{IsPort}
-use Rattle.image_defs.specs.Matches.{claims_of, is_last}
-use Rattle.plan_defs.specs.declared.plan.Homes.{Homes}
-use Rattle.plan_defs.specs.declared.plan.Plan.{Plan}
-use Rattle.plan_defs.specs.declared.switch.PortLinks.{PortLinks}
-use Rattle.plan_defs.specs.declared.switch.Switch.{Switch}
-use Rattle.plan_defs.specs.Homes.{home_of, host_of, ports_of}
-use Rattle.plan_defs.specs.Slots.{slot_of}
-use Rattle.image_build.specs.PortItems.{ArePlanClaims}
-use Rattle.image_build.specs.Built.{AreInOrderOfUse, ArePortMemories, AreLinksOf}
+use Rattle.node_defs.specs.declared.items.Item.TheVariants as item
+use Rattle.image_defs.specs.declared.image.{Source.Source, Source.TheVariants.Own, Source.TheVariants.Got, Source.TheVariants.Const, Task.Task}
+use Rattle.image_defs.specs.declared.image.{Task.TheVariants.Eval, Task.TheVariants.Hold, BlockWork.BlockWork, OutBit.OutBit, InColumn.InColumn, Work.Work}
+use Rattle.image_defs.specs.declared.image.{Work.TheVariants.Logic, Work.TheVariants.Array, Work.TheVariants.Host, PortImage.PortImage, Image.Image}
+use Rattle.image_defs.specs.{Places.IsPort, Matches.claims_of, Matches.is_last}
+use Rattle.plan_defs.specs.declared.{plan.Homes.Homes, plan.Plan.Plan, switch.PortLinks.PortLinks, switch.Switch.Switch}
+use Rattle.plan_defs.specs.{Homes.home_of, Homes.host_of, Homes.ports_of, Slots.slot_of}
+use Rattle.image_build.specs.{PortItems.ArePlanClaims, Built.AreInOrderOfUse, Built.ArePortMemories, Built.AreLinksOf}
 
 -- where port p takes item o from: its own slot where the item is at home, else what it receives
 abbrev pub source_of : Homes → List ℕ → ℕ → ℕ → Bool → Source

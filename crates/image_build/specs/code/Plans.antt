@@ -1,27 +1,15 @@
 -- Beside specs/Plans.antt, what only private functions and proofs cite.
 use Rattle.std.specs.Prelude.{◌≡◌, ℕ, ◌<◌, ◌≤◌, List, length, take, Some, slice_get, slice_index, Contains}
-use Rattle.func_table.specs.declared.table.Table.{Table}
-use Rattle.func_table.specs.Shelf.{IsNumbered}
-use Rattle.node_defs.specs.declared.items.Item.{Item}
+use Rattle.func_table.specs.{declared.table.Table.Table, Shelf.IsNumbered}
 use Rattle.node_defs.specs.declared.items.Item.TheVariants.{Input, BlockBit, Node, Latch}
-use Rattle.node_defs.specs.declared.items.NodeNet.{NodeNet}
-use Rattle.image_defs.specs.declared.image.Task.{Task}
-use Rattle.image_defs.specs.declared.image.Task.TheVariants.{Eval, Hold}
-use Rattle.image_defs.specs.declared.image.OutBit.{OutBit}
-use Rattle.image_defs.specs.declared.image.PortImage.{PortImage}
+use Rattle.node_defs.specs.declared.items.{Item.Item, NodeNet.NodeNet}
+use Rattle.image_defs.specs.declared.image.{Task.Task, Task.TheVariants.Eval, Task.TheVariants.Hold, OutBit.OutBit, PortImage.PortImage}
 use Rattle.image_defs.specs.Matches.{claims_of}
-use Rattle.plan_defs.specs.declared.plan.Homes.{Homes}
-use Rattle.plan_defs.specs.declared.plan.Plan.{Plan}
-use Rattle.plan_defs.specs.declared.switch.PortLinks.{PortLinks}
-use Rattle.plan_defs.specs.declared.switch.Switch.{Switch}
-use Rattle.plan_defs.specs.Homes.{block_home, ports_of}
-use Rattle.plan_defs.specs.code.Lists.{ListsBelow}
-use Rattle.plan_defs.specs.Slots.{slot_of}
-use Rattle.image_build.specs.declared.memories.Memories.{Memories}
-use Rattle.switch_set.specs.Links.{IsSlotList}
-use Rattle.image_build.specs.PortItems.{IsAt}
-use Rattle.image_build.specs.Built.{ArePortMemories, AreInOrderOfUse, AreLinksOf}
+use Rattle.plan_defs.specs.declared.{plan.Homes.Homes, plan.Plan.Plan, switch.PortLinks.PortLinks, switch.Switch.Switch}
+use Rattle.plan_defs.specs.{Homes.block_home, Homes.ports_of, code.Lists.ListsBelow, Slots.slot_of}
+use Rattle.image_build.specs.{declared.memories.Memories.Memories, PortItems.IsAt, Built.ArePortMemories, Built.AreInOrderOfUse, Built.AreLinksOf}
 use Rattle.image_build.specs.code.Layouts.{AreTasks, IsWorkFor}
+use Rattle.switch_set.specs.Links.{IsSlotList}
 
 -- the lists of the ports have these items, each in slot order
 pub record AreItemsAmong (nodes : NodeNet) (homes : Homes) (slots done : List ℕ) (lists : List (List ℕ)) : Type 0 where

@@ -1,7 +1,6 @@
 -- What holds of the members of a list that have been looked at.
 use Rattle.std.proofs.Common.{◌≡◌, ◌↔◌, IsTrue, Bool, true, false, rules, ℕ, ◌+◌, ◌<◌, ◌≤◌, List, [], ◌∷◌, ◌++◌, length, get_or, Some, slice_get, inl, inr, sym, ◌∙◌, subst, refl, arith}
-use Rattle.std.proofs.lemmas.List.{length_push}
-use Rattle.std.proofs.lemmas.Option.{slice_get_within, slice_get-get_or}
+use Rattle.std.proofs.lemmas.{List.length_push, Option.slice_get_within, Option.slice_get-get_or}
 use Rattle.list_laws.proofs.Places.{at_front, seam_at, one_there, indexed}
 use Rattle.list_laws.proofs.Ranges.{last_or}
 use Rattle.image_defs.specs.Places.{Each}

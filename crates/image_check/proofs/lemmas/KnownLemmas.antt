@@ -1,11 +1,9 @@
 -- What is known to be so or not so, and the first number that fails.
 use Rattle.std.proofs.Common.{◌≡◌, ◌∙◌, ◌⊎◌, inl, inr, Bool, true, false, ℕ, zero, suc, ◌<◌, ◌≤◌, List, length, get_or, refl, sym, ap, subst, arith}
+use Rattle.std.proofs.lemmas.{Bool.cases_eq, Bool.cases_lt, Option.slice_get_within, Option.none-some}
 use Rattle.std.specs.Prelude.{Option, Some, None, slice_get}
 use Rattle.std.specs.List.{Contains}
-use Rattle.std.proofs.lemmas.Bool.{cases_eq, cases_lt}
-use Rattle.std.proofs.lemmas.Option.{slice_get_within, none-some}
-use Rattle.list_laws.proofs.Options.{one_some}
-use Rattle.list_laws.proofs.Ranges.{last_or}
+use Rattle.list_laws.proofs.{Options.one_some, Ranges.last_or}
 
 -- it is so, or it is not
 abbrev pub IsKnown : Type 0 → Type 0

@@ -1,38 +1,20 @@
 -- Whether the places and columns of an image match the items that they claim is known.
 use Rattle.std.proofs.Common.{◌≡◌, ◌∙◌, inl, inr, ℕ, List, length, refl, sym, ap}
-use Rattle.std.specs.Prelude.{Some, slice_get}
 use Rattle.std.proofs.lemmas.Bool.{cases_eq}
-use Rattle.logic_four.specs.Values.{code_of, value_of}
-use Rattle.logic_four.specs.declared.V4.{V4}
+use Rattle.std.specs.Prelude.{Some, slice_get}
+use Rattle.logic_four.specs.{Values.code_of, Values.value_of, declared.V4.V4}
 use Rattle.logic_four.proofs.lemmas.CodeLemmas.{value_of-code_of}
-use Rattle.func_table.specs.declared.table.Table.{Table}
-use Rattle.func_table.specs.Entries.{AreAlike, entry_of}
-use Rattle.net_defs.specs.declared.timing.Init.{Init}
-use Rattle.net_defs.specs.declared.timing.Init.TheVariants.{Undef, Zero}
-use Rattle.net_defs.specs.declared.timing.Timing.{Timing}
-use Rattle.node_defs.specs.declared.items.Tag.TheVariants.{This, Last}
-use Rattle.node_defs.specs.declared.items.Feed.{Feed}
-use Rattle.node_defs.specs.declared.items.Feed.TheVariants.{From, Fixed}
-use Rattle.node_defs.specs.declared.items.Item.{Item}
+use Rattle.func_table.specs.{declared.table.Table.Table, Entries.AreAlike, Entries.entry_of}
+use Rattle.net_defs.specs.declared.timing.{Init.Init, Init.TheVariants.Undef, Init.TheVariants.Zero, Timing.Timing}
+use Rattle.node_defs.specs.declared.items.{Tag.TheVariants.This, Tag.TheVariants.Last, Feed.Feed, Feed.TheVariants.From, Feed.TheVariants.Fixed, Item.Item}
+use Rattle.node_defs.specs.{declared.items.NodeBlock.NodeBlock, declared.items.NodeNet.NodeNet, WellFormed.column_count}
 use Rattle.node_defs.specs.declared.items.Item.TheVariants as item
-use Rattle.node_defs.specs.declared.items.NodeBlock.{NodeBlock}
-use Rattle.node_defs.specs.declared.items.NodeNet.{NodeNet}
-use Rattle.node_defs.specs.WellFormed.{column_count}
-use Rattle.image_defs.specs.declared.image.Source.{Source}
-use Rattle.image_defs.specs.declared.image.Source.TheVariants.{Own, Got, Const}
-use Rattle.image_defs.specs.declared.image.Task.{Task}
-use Rattle.image_defs.specs.declared.image.Task.TheVariants.{Eval, Hold}
-use Rattle.image_defs.specs.declared.image.BlockWork.{BlockWork}
-use Rattle.image_defs.specs.declared.image.OutBit.{OutBit}
-use Rattle.image_defs.specs.declared.image.InColumn.{InColumn}
-use Rattle.image_defs.specs.declared.image.Work.{Work}
-use Rattle.image_defs.specs.declared.image.Work.TheVariants.{Logic, Array, Host}
-use Rattle.image_defs.specs.declared.image.LinkIn.{LinkIn}
-use Rattle.image_defs.specs.declared.image.PortImage.{PortImage}
-use Rattle.image_defs.specs.declared.image.Image.{Image}
 use Rattle.image_defs.specs.Places.{IsPort, item_slots, printed_of, sender_in, host_of}
 use Rattle.image_defs.specs.Matches.{IsClaim, ClaimsIn, Carries, CarryAll, MemoryImplements, TaskImplements, BitImplements, InputImplements, Implements, ImplementsClaim, claims_of, is_last}
-use Rattle.image_defs.specs.Claimed.{HasTiming, PlaceMatches, ColumnMatches}
+use Rattle.image_defs.specs.declared.image.{Source.Source, Source.TheVariants.Own, Source.TheVariants.Got, Source.TheVariants.Const, Task.Task}
+use Rattle.image_defs.specs.declared.image.{Task.TheVariants.Eval, Task.TheVariants.Hold, BlockWork.BlockWork, OutBit.OutBit, InColumn.InColumn, Work.Work}
+use Rattle.image_defs.specs.declared.image.{Work.TheVariants.Logic, Work.TheVariants.Array, Work.TheVariants.Host, LinkIn.LinkIn, PortImage.PortImage}
+use Rattle.image_defs.specs.{declared.image.Image.Image, Claimed.HasTiming, Claimed.PlaceMatches, Claimed.ColumnMatches}
 use Rattle.image_check.proofs.lemmas.KnownLemmas.{IsKnown, known_both, known_then, known_same, known_bool, known_some, known_any, known_is, known_all, known_member, known_each}
 
 -- ---- values and tables

@@ -1,16 +1,10 @@
 -- The first place of a port, and the first printed source, that isn't as it is claimed.
 use Rattle.std.specs.Prelude.{◌≡◌, ℕ, ◌<◌, List, length, Some, slice_get}
-use Rattle.node_defs.specs.declared.items.Tag.TheVariants.{This}
-use Rattle.node_defs.specs.declared.items.Feed.TheVariants.{From}
-use Rattle.node_defs.specs.declared.items.NodeNet.{NodeNet}
-use Rattle.image_defs.specs.declared.image.Source.{Source}
-use Rattle.image_defs.specs.declared.image.PortImage.{PortImage}
-use Rattle.image_defs.specs.declared.image.Image.{Image}
+use Rattle.node_defs.specs.declared.items.{Tag.TheVariants.This, Feed.TheVariants.From, NodeNet.NodeNet}
 use Rattle.image_defs.specs.Places.{IsPort, IsItemIn, printed_of, host_of}
-use Rattle.image_defs.specs.Matches.{ImplementsClaim}
-use Rattle.image_check.specs.declared.claims.OnePort.{OnePort}
+use Rattle.image_defs.specs.{declared.image.Source.Source, declared.image.PortImage.PortImage, declared.image.Image.Image, Matches.ImplementsClaim}
 use Rattle.image_defs.specs.Claimed.{lists_of, PlaceMatches}
-use Rattle.image_check.specs.code.OnePorts.{CarriesAt}
+use Rattle.image_check.specs.{declared.claims.OnePort.OnePort, code.OnePorts.CarriesAt}
 
 -- item number i of the port is as item x
 abbrev pub AsClaimed : OnePort → NodeNet → ℕ → ℕ → Type 0

@@ -1,9 +1,7 @@
 -- The parts of a well-formed image that need no look at links.
 use Rattle.std.specs.Prelude.{◌≡◌, ◌↔◌, ℕ, ◌+◌, ◌≤◌, List, length, Some, slice_get}
 use Rattle.limits.specs.declared.TheConstants.{MAX_SLOTS, MAX_UNITS, MAX_PORTS}
-use Rattle.image_defs.specs.declared.image.PortImage.{PortImage}
-use Rattle.image_defs.specs.declared.image.Image.{Image}
-use Rattle.image_defs.specs.WellFormed.{IsHost}
+use Rattle.image_defs.specs.{declared.image.PortImage.PortImage, declared.image.Image.Image, WellFormed.IsHost}
 
 -- the numbers of an image are within the limits of this project's profile
 pub record HasNumbers (image : Image) : Type 0 where

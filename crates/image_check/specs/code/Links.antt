@@ -1,11 +1,7 @@
 -- What a port sends and receives in a slot.
 use Rattle.std.specs.Prelude.{◌≡◌, ◌≢◌, ℕ}
-use Rattle.image_defs.specs.declared.image.LinkIn.{LinkIn}
-use Rattle.image_defs.specs.declared.image.LinkOut.{LinkOut}
-use Rattle.image_defs.specs.declared.image.PortImage.{PortImage}
-use Rattle.image_defs.specs.declared.image.Image.{Image}
-use Rattle.image_defs.specs.Places.{Stands}
-use Rattle.image_defs.specs.WellFormed.{ReceivesFrom}
+use Rattle.image_defs.specs.declared.image.{LinkIn.LinkIn, LinkOut.LinkOut, PortImage.PortImage, Image.Image}
+use Rattle.image_defs.specs.{Places.Stands, WellFormed.ReceivesFrom}
 
 abbrev pub link_in : ℕ → ℕ → LinkIn
 link_in slot sender = record { slot = slot; sender = sender }

@@ -1,11 +1,8 @@
 -- A memory of a port against a memory of the items.
 use Rattle.std.specs.Prelude.{◌≡◌, ℕ, List, Some, slice_get}
 use Rattle.node_defs.specs.declared.items.NodeBlock.{NodeBlock}
-use Rattle.image_defs.specs.declared.image.BlockWork.{BlockWork}
-use Rattle.image_defs.specs.Matches.{MemoryImplements}
-use Rattle.image_check.specs.declared.claims.OnePort.{OnePort}
-use Rattle.image_check.specs.declared.memories.Pair.{Pair}
-use Rattle.image_defs.specs.Claimed.{lists_of}
+use Rattle.image_defs.specs.{declared.image.BlockWork.BlockWork, Matches.MemoryImplements, Claimed.lists_of}
+use Rattle.image_check.specs.declared.{claims.OnePort.OnePort, memories.Pair.Pair}
 
 -- the memory of this number is there, and has the operands of the port's
 pub record IsMemory (one : OnePort) (block : BlockWork) (memories : List NodeBlock) (m : ℕ) : Type 0 where

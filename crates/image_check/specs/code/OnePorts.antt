@@ -1,17 +1,10 @@
 -- One port of an image with claims, as the check sees it.
 use Rattle.std.specs.Prelude.{◌≡◌, ℕ, List, Some, slice_get}
-use Rattle.func_table.specs.declared.table.Table.{Table}
-use Rattle.func_table.specs.Entries.{AreAlike}
-use Rattle.node_defs.specs.declared.items.Feed.{Feed}
-use Rattle.node_defs.specs.declared.items.Feeds.{Feeds}
-use Rattle.image_defs.specs.declared.image.Source.{Source}
-use Rattle.image_defs.specs.declared.image.Image.{Image}
-use Rattle.image_defs.specs.Places.{IsPort}
-use Rattle.image_defs.specs.Matches.{IsClaim, ClaimsIn, Carries}
-use Rattle.image_check.specs.declared.shapes.Shape.{Shape}
-use Rattle.image_check.specs.declared.claims.OnePort.{OnePort}
-use Rattle.image_check.specs.declared.nodes.Operands.{Operands}
+use Rattle.func_table.specs.{declared.table.Table.Table, Entries.AreAlike}
+use Rattle.node_defs.specs.declared.items.{Feed.Feed, Feeds.Feeds}
+use Rattle.image_defs.specs.{declared.image.Source.Source, declared.image.Image.Image, Places.IsPort, Matches.IsClaim, Matches.ClaimsIn, Matches.Carries}
 use Rattle.image_defs.specs.Claimed.{lists_of}
+use Rattle.image_check.specs.declared.{shapes.Shape.Shape, claims.OnePort.OnePort, nodes.Operands.Operands}
 use Rattle.image_check.specs.code.Shapes.{AreShapesOf, AreRising}
 
 -- these are the slots of the image's ports, and they rise

@@ -1,8 +1,8 @@
 -- The slots of a port as lists of numbers, in which the check looks.
 use Rattle.std.specs.Prelude.{◌≡◌, ℕ, List, length, Some, slice_get}
 use Rattle.std.specs.List.Sorted.{IsStrictlyIncreasing}
-use Rattle.image_defs.specs.declared.image.PortImage.{PortImage}
 use Rattle.image_defs.specs.Places.{Each, item_slots, in_slots, out_slots}
+use Rattle.image_defs.specs.declared.image.PortImage.{PortImage}
 use Rattle.image_check.specs.declared.shapes.Shape.{Shape}
 
 -- the slots of the port's items, sends and receipts

@@ -1,48 +1,28 @@
 -- An image that matches items has at each place the value of the item that the place claims: by the
 -- turn, and in a turn by the slot.
 use Rattle.std.proofs.Common.{◌≡◌, ℕ, zero, suc, ◌+◌, ◌*◌, ◌<◌, if◌then◌else◌, true, false, List, [], ◌∷◌, length, map, slice_get, Some, sym, ap, ◌∙◌, subst, refl, arith}
-use Rattle.std.specs.Option.{option_map}
 use Rattle.std.proofs.lemmas.Option.{slice_get_within, slice_get-map}
-use Rattle.list_laws.proofs.Members.{member_at, map_at}
-use Rattle.list_laws.proofs.Options.{one_some}
-use Rattle.logic_four.specs.declared.V4.{V4}
-use Rattle.logic_four.specs.Values.{settled, value_at}
+use Rattle.std.specs.Option.{option_map}
+use Rattle.list_laws.proofs.{Members.member_at, Members.map_at, Options.one_some}
+use Rattle.logic_four.specs.{declared.V4.V4, Values.settled, Values.value_at}
 use Rattle.logic_four.proofs.lemmas.CodeLemmas.{code_of_small, undefined_at}
-use Rattle.net_defs.specs.declared.timing.Timing.{Timing}
-use Rattle.net_defs.specs.declared.stimulus.Stimulus.{Stimulus}
-use Rattle.net_defs.specs.Time.{is_edge}
 use Rattle.net_defs.specs.Steps.{State, registered, values_of, words_of}
-use Rattle.func_table.specs.declared.table.Table.{Table}
-use Rattle.func_table.specs.Entries.{AreAlike, entry_for, place_of}
-use Rattle.node_defs.specs.declared.items.Tag.{Tag}
-use Rattle.node_defs.specs.declared.items.Tag.TheVariants.{This, Last}
-use Rattle.node_defs.specs.declared.items.Feed.{Feed}
-use Rattle.node_defs.specs.declared.items.Feed.TheVariants.{From, Fixed}
-use Rattle.node_defs.specs.declared.items.Item.{Item}
+use Rattle.net_defs.specs.{declared.timing.Timing.Timing, declared.stimulus.Stimulus.Stimulus, Time.is_edge}
+use Rattle.func_table.specs.{declared.table.Table.Table, Entries.AreAlike, Entries.entry_for, Entries.place_of}
 use Rattle.node_defs.specs.declared.items.Item.TheVariants.{Input, BlockBit, Node, Latch}
-use Rattle.node_defs.specs.declared.items.NodeBlock.{NodeBlock}
-use Rattle.node_defs.specs.declared.items.NodeNet.{NodeNet}
-use Rattle.node_defs.specs.Values as items
 use Rattle.node_defs.specs.Values.{feed_value, IsItemStep, AreItemValues, first_items}
-use Rattle.image_defs.specs.declared.image.Source.{Source}
-use Rattle.image_defs.specs.declared.image.Source.TheVariants.{Own, Got, Const}
-use Rattle.image_defs.specs.declared.image.Task.{Task}
-use Rattle.image_defs.specs.declared.image.Task.TheVariants.{Eval, Hold}
-use Rattle.image_defs.specs.declared.image.BlockWork.{BlockWork}
-use Rattle.image_defs.specs.declared.image.OutBit.{OutBit}
-use Rattle.image_defs.specs.declared.image.InColumn.{InColumn}
-use Rattle.image_defs.specs.declared.image.Work.{Work}
-use Rattle.image_defs.specs.declared.image.Work.TheVariants.{Logic, Array, Host}
-use Rattle.image_defs.specs.declared.image.LinkIn.{LinkIn}
-use Rattle.image_defs.specs.declared.image.PortImage.{PortImage}
-use Rattle.image_defs.specs.declared.image.Image.{Image}
+use Rattle.node_defs.specs.declared.items.{Tag.Tag, Tag.TheVariants.This, Tag.TheVariants.Last, Feed.Feed, Feed.TheVariants.From, Feed.TheVariants.Fixed}
+use Rattle.node_defs.specs.declared.items.{Item.Item, NodeBlock.NodeBlock, NodeNet.NodeNet}
+use Rattle.node_defs.specs.Values as items
 use Rattle.image_defs.specs.Places.{IsPort, IsItemIn, IsBlockOf, task_slot, blocks_of, printed_of, sender_in, host_of}
 use Rattle.image_defs.specs.WellFormed.{IsWellFormed, IsWork, IsTask, IsBefore}
 use Rattle.image_defs.specs.Steps.{Frame, Grid, timing_of, source_value, past_value, value_of_member, block_act, task_value, bit_value, column_value, item_value, IsImageStep}
-use Rattle.image_defs.specs.Frames.{frame, shown}
-use Rattle.image_defs.proofs.lemmas.ValueLemmas.{value_meets}
 use Rattle.image_defs.specs.Matches.{ClaimsIn, Carries, CarryAll, MemoryImplements, TaskImplements, BitImplements, InputImplements, Implements, ImplementsClaim, PrintsItems, Matches}
-use Rattle.image_defs.specs.Shows.{ShowsItems}
+use Rattle.image_defs.specs.declared.image.{Source.Source, Source.TheVariants.Own, Source.TheVariants.Got, Source.TheVariants.Const, Task.Task}
+use Rattle.image_defs.specs.declared.image.{Task.TheVariants.Eval, Task.TheVariants.Hold, BlockWork.BlockWork, OutBit.OutBit, InColumn.InColumn, Work.Work}
+use Rattle.image_defs.specs.declared.image.{Work.TheVariants.Logic, Work.TheVariants.Array, Work.TheVariants.Host, LinkIn.LinkIn, PortImage.PortImage}
+use Rattle.image_defs.specs.{declared.image.Image.Image, Frames.frame, Frames.shown, Shows.ShowsItems}
+use Rattle.image_defs.proofs.lemmas.ValueLemmas.{value_meets}
 
 -- ---- lists and tables
 

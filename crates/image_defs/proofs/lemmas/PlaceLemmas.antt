@@ -1,14 +1,10 @@
 -- Places in ascending lists.
 use Rattle.std.proofs.Common.{◌≡◌, ℕ, zero, suc, ◌<◌, ◌+◌, ◌==◌, false, true, List, [], ◌∷◌, not, slice_get, Option, Some, ap, ◌∙◌, refl, arith, rules}
-use Rattle.std.specs.List.{find, position_or_len}
-use Rattle.std.specs.List.Sorted.{IsStrictlyIncreasing}
-use Rattle.std.specs.Option.{option_map, unwrap_or}
-use Rattle.std.proofs.lemmas.Bool.{cond-true, cond-false}
-use Rattle.std.proofs.lemmas.List.Kept.{AllPairs-from_increasing}
+use Rattle.std.proofs.lemmas.{Bool.cond-true, Bool.cond-false, List.Kept.AllPairs-from_increasing}
 use Rattle.std.proofs.lemmas.Option.{slice_get_within, get_or_from_slice_get, slice_get-map}
+use Rattle.std.specs.{List.find, List.position_or_len, List.Sorted.IsStrictlyIncreasing, Option.option_map, Option.unwrap_or}
 pub use Rattle.list_laws.proofs.Members.{mapped_at as at_map}
-use Rattle.image_defs.specs.declared.image.LinkIn.{LinkIn}
-use Rattle.image_defs.specs.Places.{in_slots, sender_in}
+use Rattle.image_defs.specs.{declared.image.LinkIn.LinkIn, Places.in_slots, Places.sender_in}
 
 -- each number of the list is less than all that follow
 abbrev pub Rises : List ℕ → Type 0

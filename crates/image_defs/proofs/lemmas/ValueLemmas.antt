@@ -1,25 +1,19 @@
 -- The value of a well-formed image meets its equations.
 use Rattle.std.proofs.Common.{◌≡◌, ℕ, zero, suc, ◌<◌, ◌+◌, ◌==◌, false, true, List, [], length, slice_get, Some, sym, ap, ◌∙◌, subst, refl, arith, rules, inl, inr}
-use Rattle.std.specs.Option.{option_map, unwrap_or}
 use Rattle.std.proofs.lemmas.Bool.{cases_lt, cond-true, cond-false}
+use Rattle.std.specs.Option.{option_map, unwrap_or}
 use Rattle.list_laws.proofs.Members.{mapped_at}
 use Rattle.logic_four.specs.declared.V4.{V4}
 use Rattle.net_defs.specs.declared.stimulus.Stimulus.{Stimulus}
 use Rattle.func_table.specs.declared.table.Table.{Table}
-use Rattle.image_defs.specs.declared.image.Source.{Source}
-use Rattle.image_defs.specs.declared.image.Source.TheVariants.{Own, Got, Const}
-use Rattle.image_defs.specs.declared.image.Task.{Task}
-use Rattle.image_defs.specs.declared.image.Task.TheVariants.{Eval, Hold}
-use Rattle.image_defs.specs.declared.image.BlockWork.{BlockWork}
-use Rattle.image_defs.specs.declared.image.Work.{Work}
-use Rattle.image_defs.specs.declared.image.Work.TheVariants.{Logic, Array, Host}
-use Rattle.image_defs.specs.declared.image.LinkIn.{LinkIn}
-use Rattle.image_defs.specs.declared.image.PortImage.{PortImage}
-use Rattle.image_defs.specs.declared.image.Image.{Image}
 use Rattle.image_defs.specs.Places.{item_slots, task_slot, IsPort, IsItemIn, IsBlockOf}
 use Rattle.image_defs.specs.WellFormed.{IsWellFormed, IsPortImage, IsWork, IsBefore, IsTask}
 use Rattle.image_defs.specs.Steps.{Frame, Grid, value_of_member, source_value, task_value, item_value, IsImageStep, AreImageValues}
 use Rattle.image_defs.specs.Frames.{frame, filled, slot_value, words_by, next_frame}
+use Rattle.image_defs.specs.declared.image.{Source.Source, Source.TheVariants.Own, Source.TheVariants.Got, Source.TheVariants.Const, Task.Task}
+use Rattle.image_defs.specs.declared.image.{Task.TheVariants.Eval, Task.TheVariants.Hold, BlockWork.BlockWork, Work.Work}
+use Rattle.image_defs.specs.declared.image.{Work.TheVariants.Logic, Work.TheVariants.Array, Work.TheVariants.Host, LinkIn.LinkIn, PortImage.PortImage}
+use Rattle.image_defs.specs.declared.image.Image.{Image}
 use Rattle.image_defs.proofs.lemmas.PlaceLemmas.{rises, place_found, same_number}
 
 -- two grids agree in the slots before n

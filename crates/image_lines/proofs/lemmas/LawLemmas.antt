@@ -1,34 +1,24 @@
 -- Lines read back from their bytes.
 use Rattle.std.proofs.Common.{◌≡◌, ◌∙◌, inl, inr, ℕ, ◌^◌, ◌<◌, ◌≤◌, ◌==◌, Bool, true, false, not, ◌&&◌, List, [], ◌∷◌, length, map, codes, decimal, refl, sym, ap, subst, Option, Some, None, Ok, bytes_eq, All, arith, nat_lt}
-use Rattle.std.specs.List.{list_all, slice_split, join_with_byte}
-use Rattle.std.specs.Char.{is_ascii_digit}
 use Rattle.std.proofs.lemmas.List.Elements.{All-nil, All-cons, All-head, All-tail, All-append}
-use Rattle.std.proofs.lemmas.List.Folds.{list_all-append}
-use Rattle.std.proofs.lemmas.List.Splits.{slice_split_at, slice_split_none, join_with_byte-slice_split}
-use Rattle.std.proofs.lemmas.Fmt.{digits_decimal}
-use Rattle.std.proofs.lemmas.Slice.Eq.{bytes_eq-Decides}
-use Rattle.std.proofs.lemmas.Bool.{and_parts}
+use Rattle.std.proofs.lemmas.List.{Folds.list_all-append, Splits.slice_split_at, Splits.slice_split_none, Splits.join_with_byte-slice_split}
+use Rattle.std.proofs.lemmas.{Fmt.digits_decimal, Slice.Eq.bytes_eq-Decides, Bool.and_parts}
+use Rattle.std.specs.{List.list_all, List.slice_split, List.join_with_byte, Char.is_ascii_digit}
 use Rattle.logic_four.specs.declared.V4.TheVariants as v4
 use Rattle.net_defs.specs.declared.timing.Init.{Init}
 use Rattle.net_defs.specs.declared.timing.Init.TheVariants as inits
-use Rattle.image_defs.specs.declared.image.Source.{Source}
-use Rattle.image_defs.specs.declared.image.Source.TheVariants.{Own, Got, Const}
+use Rattle.image_defs.specs.declared.image.Source.{Source, TheVariants.Own, TheVariants.Got, TheVariants.Const}
 use Rattle.image_defs.specs.declared.image.Task.TheVariants.{Eval, Hold}
-use Rattle.image_lines.specs.declared.line.PortKind.{PortKind}
-use Rattle.image_lines.specs.declared.line.PortKind.TheVariants.{Logic}
-use Rattle.image_lines.specs.declared.line.Line.{Line}
 use Rattle.image_lines.specs.declared.line.Line.TheVariants.{Version, Head, Port, Table, Work, Block, Bit, Input, Print, Send, Take, End}
-use Rattle.image_lines.specs.declared.word.Word.{Word}
-use Rattle.image_lines.specs.declared.word.Word.TheVariants as word
-use Rattle.image_lines.specs.Forms as forms
 use Rattle.image_lines.specs.Forms.{named, form, form_behind, lined, line_in, line_read, finished, is_within, table_of}
 use Rattle.image_lines.specs.Tokens.{Left, Reader, is_space, tokens_of, is_hex, behind}
 use Rattle.image_lines.specs.Words.{line_words, line_bytes, source_word, init_word, kind_word, hex_digits}
 use Rattle.image_lines.specs.Ranges.{IsSmall, IsSmallSource, IsSmallLine, IsInRange}
-use Rattle.image_lines.proofs.HexLemmas.{digits_hex}
-use Rattle.image_lines.proofs.TokenLemmas.{own, if_or, hex_spells}
-use Rattle.image_lines.proofs.ReaderLemmas.{Spells, same_left}
+use Rattle.image_lines.specs.declared.{line.PortKind.PortKind, line.PortKind.TheVariants.Logic, line.Line.Line, word.Word.Word}
+use Rattle.image_lines.specs.declared.word.Word.TheVariants as word
+use Rattle.image_lines.specs.Forms as forms
 use Rattle.image_lines.proofs.LineLemmas.{word_of, named_again, named_found, lined_again, lined_found, source_fields, head_fields, kind_fields, numbers_fields, eval_fields, hold_fields, bit_fields, input_fields, end_again, table_is, send_again, block_again, Behind, moved, send_found, table_found, block_found}
+use Rattle.image_lines.proofs.{HexLemmas.digits_hex, TokenLemmas.own, TokenLemmas.if_or, TokenLemmas.hex_spells, ReaderLemmas.Spells, ReaderLemmas.same_left}
 
 front : (w : Word) (rest : List (List ℕ)) → line_in (word_of w ∷ rest) ≡ form w (rest, false)
 unfolding line_in

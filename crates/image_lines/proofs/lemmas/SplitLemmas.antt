@@ -1,11 +1,9 @@
 -- A text cut at its first byte of a kind.
 use Rattle.std.proofs.Common.{◌≡◌, ℕ, ◌+◌, ◌<◌, ◌≤◌, false, ◌==◌, List, [], ◌∷◌, length, take, drop, Option, Some, None, ap, ◌∙◌, inl, inr, arith, ltb}
-use Rattle.std.specs.Option.{option_map}
-use Rattle.std.specs.List.{position_or_len, slice_split, before_first, after_first}
 use Rattle.std.proofs.lemmas.Bool.{cases_lt, cond-true, cond-false, lt-ltb, le-ltb}
-use Rattle.std.proofs.lemmas.List.Elements.{All-from_get_or}
-use Rattle.std.proofs.lemmas.List.Sums.{fails_before_first}
-use Rattle.std.proofs.lemmas.List.Splits.{slice_split_first, slice_split_none}
+use Rattle.std.proofs.lemmas.List.{Elements.All-from_get_or, Sums.fails_before_first, Splits.slice_split_first, Splits.slice_split_none}
+use Rattle.std.specs.List.{position_or_len, slice_split, before_first, after_first}
+use Rattle.std.specs.Option.{option_map}
 use Rattle.text_lines.specs.Bytes.{cut_at}
 
 cut_here : (byte : ℕ) (text : List ℕ) → position_or_len (λ b. b == byte) text < length text

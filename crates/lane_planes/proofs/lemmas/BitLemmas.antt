@@ -1,13 +1,10 @@
 -- One bit of a word.
 use Rattle.std.proofs.Common.{◌≡◌, ◌≢◌, ◌∙◌, ℕ, zero, suc, ◌+◌, ◌-◌, ◌*◌, ◌/◌, ◌%◌, ◌^◌, ◌<◌, bit_and, bit_or, w32, refl, arith}
-use Rattle.std.specs.Prelude.{max}
-use Rattle.std.specs.Int.{bit_at}
-use Rattle.std.proofs.lemmas.Nat.{or_lt, and_le_l}
-use Rattle.std.proofs.Math.Pow.{pow-lt}
 use Rattle.std.proofs.lemmas.Nat.Bits.{bit_at_or, bit_at_ones, bit_at-zero, bit_at_set_same, bit_at_set_other, bit_at_clear_same, bit_at_clear_other}
+use Rattle.std.proofs.{lemmas.Nat.or_lt, lemmas.Nat.and_le_l, Math.Pow.pow-lt}
+use Rattle.std.specs.{Prelude.max, Int.bit_at}
 use Rattle.limits.specs.declared.TheConstants.{LANES}
-use Rattle.logic_four.specs.declared.V4.{V4}
-use Rattle.logic_four.specs.Values.{code_of, value_of}
+use Rattle.logic_four.specs.{declared.V4.V4, Values.code_of, Values.value_of}
 
 -- the word with the bit k cleared, and then the bit put there
 abbrev cleared : ℕ → ℕ → ℕ

@@ -1,20 +1,13 @@
 -- A claim on the lanes of planes holds where it holds for every choice of their bits.
 use Rattle.std.proofs.Common.{◌≡◌, ◌∙◌, ℕ, zero, suc, ◌+◌, ◌*◌, ◌/◌, ◌%◌, ◌^◌, ◌<◌, bit_and, Bool, true, ◌&&◌, inl, inr, ap, ap₂, subst, arith}
-use Rattle.std.specs.Prelude.{◌≢◌}
-use Rattle.std.specs.Int.{bit_at}
-use Rattle.std.proofs.lemmas.Nat.Bits.{bit_at-lt, shr_and_one, same_from_bits_below}
-use Rattle.std.proofs.Math.Bridge.{le_prop}
-use Rattle.std.proofs.lemmas.Bool.{and_parts}
+use Rattle.std.proofs.{lemmas.Nat.Bits.bit_at-lt, lemmas.Nat.Bits.shr_and_one, lemmas.Nat.Bits.same_from_bits_below, Math.Bridge.le_prop, lemmas.Bool.and_parts}
 use Rattle.std.proofs.lemmas.Bool.Decides.{eqb_tells}
+use Rattle.std.specs.{Prelude.◌≢◌, Int.bit_at}
 use Rattle.limits.specs.declared.TheConstants.{LANES}
-use Rattle.logic_four.specs.declared.V4.{V4}
-use Rattle.logic_four.specs.Values.{value_of, code_of}
-use Rattle.logic_four.proofs.lemmas.PackedLemmas.{code_from_value}
-use Rattle.logic_four.proofs.lemmas.TestLemmas.{same, same_true}
-use Rattle.lane_planes.specs.declared.planes.Planes.{Planes}
-use Rattle.lane_planes.specs.Lanes.{lane_of, AreAlike}
-use Rattle.lane_planes.proofs.lemmas.BitLemmas.{value_of_bits}
-use Rattle.lane_planes.proofs.WordLemmas.{Word}
+use Rattle.logic_four.specs.{declared.V4.V4, Values.value_of, Values.code_of}
+use Rattle.logic_four.proofs.lemmas.{PackedLemmas.code_from_value, TestLemmas.same, TestLemmas.same_true}
+use Rattle.lane_planes.specs.{declared.planes.Planes.Planes, Lanes.lane_of, Lanes.AreAlike}
+use Rattle.lane_planes.proofs.{lemmas.BitLemmas.value_of_bits, WordLemmas.Word}
 
 -- the value of two bits
 abbrev pub bits : ℕ → ℕ → V4

@@ -1,16 +1,10 @@
 -- What is made of a large netlist before its run.
 use Rattle.std.specs.Prelude.{◌≡◌, ℕ, []}
-use Rattle.large_run.specs.declared.summary.Summary.{Summary}
-use Rattle.large_run.specs.Large.{gate_state, large_netlist, large_stimulus}
-use Rattle.net_defs.specs.declared.stimulus.Stimulus.{Stimulus}
-use Rattle.net_defs.specs.Time.{cycle_count}
-use Rattle.net_defs.specs.Valid.{IsValidStimulus}
+use Rattle.large_run.specs.{declared.summary.Summary.Summary, Large.gate_state, Large.large_netlist, Large.large_stimulus, declared.design.Design.Design}
+use Rattle.large_run.specs.{Runs.summary_of, Setting.large_machine, Setting.large_timing}
+use Rattle.net_defs.specs.{declared.stimulus.Stimulus.Stimulus, Time.cycle_count, Valid.IsValidStimulus}
 use Rattle.plan_text.specs.Counted.{AreCrossings}
-use Rattle.yse_compile.specs.declared.compiler.Compiled.{Compiled}
-use Rattle.yse_compile.specs.Compiled.{IsCompiled, ShowsReference}
-use Rattle.large_run.specs.declared.design.Design.{Design}
-use Rattle.large_run.specs.Runs.{summary_of}
-use Rattle.large_run.specs.Setting.{large_machine, large_timing}
+use Rattle.yse_compile.specs.{declared.compiler.Compiled.Compiled, Compiled.IsCompiled, Compiled.ShowsReference}
 
 -- the summary of so many gates and of this plan, before any cell is counted
 pub record AreFigures (gates : ℕ) (compiled : Compiled) (summary : Summary) : Type 0 where

@@ -1,6 +1,5 @@
 -- The cells of rows.
-use Rattle.std.specs.Prelude.{List}
-use Rattle.std.specs.List.{flat_map}
+use Rattle.std.specs.{Prelude.List, List.flat_map}
 use Rattle.logic_four.specs.declared.V4.{V4}
 use Rattle.net_defs.specs.declared.trace.CellRow.{CellRow}
 

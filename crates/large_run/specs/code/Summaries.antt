@@ -1,7 +1,7 @@
 -- Beside specs/Summaries.antt, what only private functions and proofs cite.
 use Rattle.std.specs.Prelude.{◌+◌}
-use Rattle.logic_four.specs.declared.V4.{V4}
 use Rattle.logic_four.specs.declared.V4.TheVariants.{Zero, One, Undef, HighZ}
+use Rattle.logic_four.specs.declared.V4.{V4}
 use Rattle.large_run.specs.declared.summary.CellCounts.{CellCounts}
 
 -- one cell more

@@ -1,9 +1,7 @@
 -- Lemmas on the codes of values.
 use Rattle.std.proofs.Common.{◌≡◌, ◌<◌, refl, arith, ℕ, zero, suc, replicate}
 use Rattle.std.proofs.lemmas.Bool.Decides.{nat_tests}
-use Rattle.logic_four.specs.declared.V4.{V4}
-use Rattle.logic_four.specs.declared.V4.TheVariants.{Undef}
-use Rattle.logic_four.specs.Values.{code_of, value_of, value_at}
+use Rattle.logic_four.specs.{declared.V4.V4, declared.V4.TheVariants.Undef, Values.code_of, Values.value_of, Values.value_at}
 
 -- the value of a value's code is the value
 pub value_of-code_of : (v : V4) → value_of (code_of v) ≡ v

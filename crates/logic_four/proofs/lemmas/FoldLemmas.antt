@@ -1,15 +1,13 @@
 -- The proofs of the laws of gates of many operands.
 use Rattle.std.proofs.Common.{◌≡◌, ◌∙◌, ℕ, ◌+◌, ◌%◌, List, [], ◌∷◌, ◌++◌, map, refl, sym, ap, arith, IsTrue}
-use Rattle.std.proofs.lemmas.Bool.Decides.{nat_tests}
-use Rattle.std.proofs.lemmas.List.Sums.{sum_by-cons}
+use Rattle.std.proofs.lemmas.{Bool.Decides.nat_tests, List.Sums.sum_by-cons}
 use Rattle.std.specs.Prelude.{not, ◌==◌, ◌&&◌, cond}
 use Rattle.std.specs.List.{flat_map, list_all}
-use Rattle.logic_four.specs.declared.V4.{V4}
 use Rattle.logic_four.specs.declared.V4.TheVariants.{Zero, One, Undef, HighZ}
-use Rattle.logic_four.specs.declared.Kind.{Kind}
 use Rattle.logic_four.specs.declared.Kind.TheVariants.{And, Nand, Or, Nor, Xor, Xnor, Bus}
 use Rattle.logic_four.specs.Gates.{gate_value, is_one, is_high_z, and_value, or_value, xor_value, bus_value, is_driven_zero, is_driven_one}
 use Rattle.logic_four.specs.Folds.{takes_many, base_kind, JoinsFront, JoinsParts, JoinsGroups}
+use Rattle.logic_four.specs.declared.{V4.V4, Kind.Kind}
 
 -- a value of a list that is joined from the right
 record Joins (f : List V4 → V4) : Type 0 where

@@ -1,10 +1,9 @@
 -- The words of the kinds read back, and the numbers of operands.
 use Rattle.std.proofs.Common.{◌≡◌, ℕ, true, refl, ◌≤◌, arith}
+use Rattle.std.proofs.lemmas.{Bool.and_parts, Bool.leb-true, Slice.Eq.bytes_eq-Decides}
 use Rattle.std.specs.Str.{str_to_ascii_lowercase}
-use Rattle.std.proofs.lemmas.Bool.{and_parts, leb-true}
-use Rattle.std.proofs.lemmas.Slice.Eq.{bytes_eq-Decides}
-use Rattle.logic_four.specs.declared.Kind.{Kind}
 use Rattle.logic_four.specs.Kinds.{kind_of, is_any_number, AllowsOperands, ReadsInAnyCase, CanonicalWordsRead, BothWordsOfBuffers, WordsSayTheirKind}
+use Rattle.logic_four.specs.declared.Kind.{Kind}
 
 pub canonical : CanonicalWordsRead
 unfolding kind_of

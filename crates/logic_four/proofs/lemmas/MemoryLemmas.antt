@@ -1,17 +1,14 @@
 -- The proofs of the laws of the memory act.
 use Rattle.std.proofs.Common.{◌≡◌, ℕ, suc, ◌+◌, ◌*◌, ◌^◌, ◌<◌, ◌≤◌, Bool, true, false, List, [], ◌∷◌, ◌++◌, length, map, refl, ◌∙◌, arith, get_or, set, get_or-set_same, get_or-set_other, pow-suc}
-use Rattle.std.proofs.Math.Bool.{and-false}
+use Rattle.std.proofs.lemmas.List.{length-set, length-map, length-replicate, get_or-replicate}
+use Rattle.std.proofs.lemmas.List.Elements.{All-set, All-map, All-replicate, All-get_or}
+use Rattle.std.proofs.{Math.Bool.and-false, lemmas.Option.get_or_from_slice_get}
 use Rattle.std.specs.Prelude.{Option, Some, None, All, IfSome, replicate, if◌then◌else◌}
 use Rattle.std.specs.List.{list_all}
-use Rattle.std.proofs.lemmas.List.{length-set, length-map, length-replicate, get_or-replicate}
-use Rattle.std.proofs.lemmas.Option.{get_or_from_slice_get}
-use Rattle.std.proofs.lemmas.List.Elements.{All-set, All-map, All-replicate, All-get_or}
-use Rattle.logic_four.specs.declared.V4.{V4}
-use Rattle.logic_four.specs.declared.V4.TheVariants.{Zero, One, Undef}
-use Rattle.logic_four.specs.Values.{settled}
-use Rattle.logic_four.specs.Gates.{is_known, is_one}
 use Rattle.logic_four.specs.Memory.{bits_number, address_of, undefined_word, word_at, read_word, written_at, written, initial_words, HasShape}
 use Rattle.logic_four.specs.MemoryLaws.{BitZeroComesFirst, UndefinedBitsHideAddress, AddressIsWithin, AnswersOldWord, UnknownAddressAnswersUndefined, DisabledKeepsWords, ReadsWhatWasWritten, UndefinedEnableHidesWord, KeepsOtherWords, UnknownAddressHidesAll, BeginsInShape, BeginsAsInitial, KeepsShape, OutputsFitWord}
+use Rattle.logic_four.specs.{declared.V4.V4, declared.V4.TheVariants.Zero, declared.V4.TheVariants.One, declared.V4.TheVariants.Undef, Values.settled}
+use Rattle.logic_four.specs.Gates.{is_known, is_one}
 
 pub bit_zero_first : BitZeroComesFirst
 unfolding address_of bits_number

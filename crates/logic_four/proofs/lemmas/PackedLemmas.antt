@@ -1,16 +1,11 @@
 -- The codes in the places of a word, and of lists of words.
 use Rattle.std.proofs.Common.{inl, inr, ◌≡◌, ◌≢◌, ℕ, zero, suc, ◌+◌, ◌-◌, ◌*◌, ◌/◌, ◌%◌, ◌^◌, ◌<◌, ◌≤◌, Bool, true, ◌&&◌, eqb, List, length, set, replicate, get_or-set_same, get_or-set_other, bit_and, bit_or, refl, sym, ◌∙◌, ap, arith, mul_assoc}
-use Rattle.std.proofs.Math.Nat.{mul-add-mod_self_right}
 use Rattle.std.proofs.lemmas.Nat.{field_of, shr_high, shr_split, shl_whole, pow-add, shr-shr, and-not, and_block, and_mask, and_comm, and_le_l, and_le_r, or_block, or_disjoint, or_shifted, mod_below, pow_pos, shr_below}
-use Rattle.std.proofs.lemmas.Bool.{cases_eq, cases_lt}
-use Rattle.std.proofs.lemmas.List.{ext_get_or, get_or-replicate}
-use Rattle.std.specs.Prelude.{slice_index}
+use Rattle.std.proofs.{Math.Nat.mul-add-mod_self_right, lemmas.Bool.cases_eq, lemmas.Bool.cases_lt, lemmas.List.ext_get_or, lemmas.List.get_or-replicate}
 use Rattle.std.proofs.lemmas.Bool.Decides.{Decides-eqb, Decides-below_and}
-use Rattle.logic_four.specs.declared.V4.{V4}
-use Rattle.logic_four.specs.Values.{code_of, value_of}
-use Rattle.logic_four.specs.Packed.{code_in, packed_value}
-use Rattle.logic_four.proofs.lemmas.CodeLemmas.{value_of-code_of, code_of-value_of}
-use Rattle.logic_four.proofs.lemmas.TestLemmas.{at_value}
+use Rattle.std.specs.Prelude.{slice_index}
+use Rattle.logic_four.specs.{declared.V4.V4, Values.code_of, Values.value_of, Packed.code_in, Packed.packed_value}
+use Rattle.logic_four.proofs.lemmas.{CodeLemmas.value_of-code_of, CodeLemmas.code_of-value_of, TestLemmas.at_value}
 
 -- a number is what stands above a place, the code there, and what stands below
 parted : (number s : ℕ) → number ≡ (number / 2 ^ s / 4 * 4 + number / 2 ^ s % 4) * 2 ^ s + number % 2 ^ s

@@ -1,8 +1,7 @@
 -- Tests that each of the four values passes.
 use Rattle.std.proofs.Common.{◌≡◌, ◌∙◌, Bool, true, ◌&&◌, eqb, eqb-true, sym, ap, arith}
-use Rattle.logic_four.specs.declared.V4.{V4}
 use Rattle.logic_four.specs.declared.V4.TheVariants.{Zero, One, Undef, HighZ}
-use Rattle.logic_four.specs.Values.{code_of, value_of}
+use Rattle.logic_four.specs.{declared.V4.V4, Values.code_of, Values.value_of}
 use Rattle.logic_four.proofs.lemmas.CodeLemmas.{value_of-code_of}
 
 abbrev pub same : V4 → V4 → Bool

@@ -1,19 +1,12 @@
 -- Lines that follow one another.
 use Rattle.std.proofs.Common.{List, Option, Ok, Err, Result, [], ◌∷◌, ◌++◌, ap, ap₂, arith, length, sym, subst, ℕ, zero, suc, ◌+◌, ◌-◌, ◌<◌, ◌∙◌, ◌≡◌, ◌≤◌}
+use Rattle.std.proofs.lemmas.List.{append-nil, ext_get_or, Concat.flat_map-append, FromFn.get_or-map-range_with_len, FromFn.length-map-range_with_len}
 use Rattle.std.specs.List.{flat_map, range_with_len}
-use Rattle.std.proofs.lemmas.List.{append-nil, ext_get_or}
-use Rattle.std.proofs.lemmas.List.Concat.{flat_map-append}
-use Rattle.std.proofs.lemmas.List.FromFn.{get_or-map-range_with_len, length-map-range_with_len}
 use Rattle.edge_io.proofs.lemmas.WritingLemmas.{writes_cut, writes_none, writes_on}
-use Rattle.edge_io.specs.Writing.{Takes}
-use Rattle.edge_io.specs.declared.writing.WriteNo.{WriteNo}
-use Rattle.image_defs.specs.Frames.{shown}
-use Rattle.image_defs.specs.declared.image.Image.{Image}
-use Rattle.logic_four.specs.Values.{value_at}
-use Rattle.logic_four.specs.declared.V4.{V4}
-use Rattle.logic_four.specs.declared.V4.TheVariants.{Undef}
-use Rattle.net_defs.specs.Trace.{cycle_line}
-use Rattle.net_defs.specs.declared.stimulus.Stimulus.{Stimulus}
+use Rattle.edge_io.specs.{Writing.Takes, declared.writing.WriteNo.WriteNo}
+use Rattle.image_defs.specs.{Frames.shown, declared.image.Image.Image}
+use Rattle.logic_four.specs.{Values.value_at, declared.V4.V4, declared.V4.TheVariants.Undef}
+use Rattle.net_defs.specs.{Trace.cycle_line, declared.stimulus.Stimulus.Stimulus}
 use Rattle.port_host.specs.Rows.{printed_sources}
 use Rattle.machine_run.specs.Lines.{cells_shown, lines_between}
 

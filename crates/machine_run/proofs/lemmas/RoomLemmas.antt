@@ -3,14 +3,10 @@ use Rattle.std.proofs.Common.{List, Option, Some, arith, inl, inr, length, slice
 use Rattle.crew_run.proofs.lemmas.Places.{beside, one_some, read_below}
 use Rattle.crew_run.specs.Crews.{CanTell}
 use Rattle.crew_run.specs.declared.gate.Gate as gate
-use Rattle.image_defs.specs.WellFormed.{IsWellFormed}
-use Rattle.image_defs.specs.declared.image.Image.{Image}
-use Rattle.net_defs.specs.Valid.{IsValidStimulus}
-use Rattle.net_defs.specs.declared.stimulus.Stimulus.{Stimulus}
-use Rattle.machine_run.specs.Crews.{at_first, turns_left}
-use Rattle.machine_run.specs.Visits.{AllCanTellTurns, AreVisitsBetween, HasVisits}
-use Rattle.machine_run.proofs.CrewLemmas.{all_left, turns_few}
-use Rattle.machine_run.proofs.lemmas.TurnLemmas.{whose}
+use Rattle.image_defs.specs.{WellFormed.IsWellFormed, declared.image.Image.Image}
+use Rattle.net_defs.specs.{Valid.IsValidStimulus, declared.stimulus.Stimulus.Stimulus}
+use Rattle.machine_run.specs.{Crews.at_first, Crews.turns_left, Visits.AllCanTellTurns, Visits.AreVisitsBetween, Visits.HasVisits}
+use Rattle.machine_run.proofs.{CrewLemmas.all_left, CrewLemmas.turns_few, lemmas.TurnLemmas.whose}
 
 module _ {G : Type 0} (p : gate.Ghosts G) where
   -- gates that can be told of 2 ^ 62 turns can be told of fewer

@@ -1,15 +1,12 @@
 -- What the gates of a crew were told in a block, by the ports of its workers.
 use Rattle.std.proofs.Common.{List, Option, Some, ap, arith, inl, inr, length, refl, slice_get, slice_index, sym, subst, ℕ, ◌%◌, ◌+◌, ◌<◌, ◌^◌, ◌∙◌, ◌≡◌, ◌≤◌}
-use Rattle.std.proofs.lemmas.Bool.{cases_lt}
-use Rattle.std.proofs.lemmas.Option.{slice_get_within}
+use Rattle.std.proofs.lemmas.{Bool.cases_lt, Option.slice_get_within}
 use Rattle.limits.specs.declared.TheConstants.{MAX_PORTS}
 use Rattle.list_laws.proofs.Places.{one_there}
 use Rattle.crew_run.proofs.lemmas.Places.{beside, member_at}
-use Rattle.crew_run.specs.Lending.{AllCanRunWith, AllHaveRunWith}
-use Rattle.crew_run.specs.Visits.{AreVisits, IsTold}
+use Rattle.crew_run.specs.{Lending.AllCanRunWith, Lending.AllHaveRunWith, Visits.AreVisits, Visits.IsTold, declared.worker.Worker.Worker}
 use Rattle.crew_run.specs.declared.gate.Gate as gate
 use Rattle.crew_run.specs.declared.stepper.Stepper as stepper
-use Rattle.crew_run.specs.declared.worker.Worker.{Worker}
 use Rattle.image_defs.specs.Places.{host_of}
 use Rattle.port_run.specs.contracts.seated.SeatedStepper.TheImpl as seated
 use Rattle.port_run.specs.declared.seated.Seated.{Seated}

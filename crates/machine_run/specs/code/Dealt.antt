@@ -5,8 +5,7 @@ use Rattle.image_defs.specs.WellFormed.{IsWellFormed}
 use Rattle.net_defs.specs.Valid.{IsValidStimulus}
 use Rattle.port_run.specs.declared.seated.Seated.{Seated}
 use Rattle.slot_words.specs.plain.Passes.{IsFirstPass, PassView}
-use Rattle.machine_run.specs.Dealt.{HasPortOf}
-use Rattle.machine_run.specs.declared.seats.CrewSeats.{CrewSeats}
+use Rattle.machine_run.specs.{Dealt.HasPortOf, declared.seats.CrewSeats.CrewSeats}
 
 -- so many workers without members
 pub record AreIdle {S G : Type 0} (n : ℕ) (ws : List (Worker S G)) : Type 0 where

@@ -1,11 +1,8 @@
 -- What becomes of the members of workers, each in its place.
 use Rattle.std.specs.Prelude.{List, Some, length, slice_get, ℕ, ◌<◌, ◌≡◌, ◌≤◌}
-use Rattle.crew_run.specs.Crews.{IsDone}
-use Rattle.crew_run.specs.code.Phases.{Each}
+use Rattle.crew_run.specs.{Crews.IsDone, code.Phases.Each, declared.worker.Worker.Worker}
 use Rattle.crew_run.specs.declared.stepper.Stepper as stepper
-use Rattle.crew_run.specs.declared.worker.Worker.{Worker}
-use Rattle.port_run.specs.Pairs.{next_block}
-use Rattle.port_run.specs.declared.seated.Seated.{Seated}
+use Rattle.port_run.specs.{Pairs.next_block, declared.seated.Seated.Seated}
 
 -- the relation leads from each member to the one that stands in its place, of as many
 abbrev pub AreMoved : {S G : Type 0} → (S → S → Type 0) → List (Worker S G) → List (Worker S G) → Type 0

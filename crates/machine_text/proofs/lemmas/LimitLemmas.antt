@@ -1,14 +1,10 @@
 -- The limit that holds at a port of a valid machine is in its range.
 use Rattle.std.proofs.Common.{◌≡◌, ◌∙◌, ℕ, suc, ◌≤◌, Bool, true, false, List, [], ◌∷◌, Option, Some, None, refl, sym, subst, arith}
-use Rattle.std.specs.Prelude.{◌==◌, All}
-use Rattle.std.specs.List.{find}
 use Rattle.std.proofs.lemmas.Bool.{and_parts}
-use Rattle.machine_text.specs.declared.machine.Limited.{Limited}
-use Rattle.machine_text.specs.declared.machine.Limited.TheVariants.{Functions, Nodes, Bits}
-use Rattle.machine_text.specs.declared.machine.Machine.{Machine}
-use Rattle.machine_text.specs.declared.machine.PortLimit.{PortLimit}
+use Rattle.std.specs.{Prelude.◌==◌, Prelude.All, List.find}
 use Rattle.machine_text.specs.Limits.{same_limited, is_at, common_limit, limit_at, limit_most}
-use Rattle.machine_text.specs.Machines.{IsValid, IsOwnLimit}
+use Rattle.machine_text.specs.declared.machine.Limited.{Limited, TheVariants.Functions, TheVariants.Nodes, TheVariants.Bits}
+use Rattle.machine_text.specs.{declared.machine.Machine.Machine, declared.machine.PortLimit.PortLimit, Machines.IsValid, Machines.IsOwnLimit}
 
 -- what is found passes the test, and is what all are
 pub found_is : {X : Type 0} (P : X → Type 0) (test : X → Bool) (xs : List X) (x : X) → All P xs → find test xs ≡ Some x → P x × (test x ≡ true)

@@ -1,7 +1,6 @@
 -- Decimal digits.
 use Rattle.std.specs.Prelude.{◌≡◌, ◌≢◌, ℕ, Bool, true, not, List, drop, slice_index_or, nat_eq}
-use Rattle.std.specs.List.{list_all, position_or_len}
-use Rattle.std.specs.Char.{is_ascii_digit}
+use Rattle.std.specs.{List.list_all, List.position_or_len, Char.is_ascii_digit}
 
 -- digits, the first of which is no zero
 pub record IsSignificant (digits : List ℕ) : Type 0 where

@@ -1,16 +1,11 @@
 -- What is kept of the lines so far, and what one more line does.
 use Rattle.std.specs.Prelude.{ℕ, Bool, nat_eq, nat_lt, List, [], ◌∷◌, ◌++◌, Option, Some, None, if◌then◌else◌}
 use Rattle.std.specs.List.{list_any}
-use Rattle.machine_text.specs.declared.given.Given.{Given}
-use Rattle.machine_text.specs.declared.machine.Limited.{Limited}
-use Rattle.machine_text.specs.declared.machine.Limited.TheVariants.{Functions, Nodes, Bits}
-use Rattle.machine_text.specs.declared.machine.MachNo.{MachNo}
-use Rattle.machine_text.specs.declared.machine.MachNo.TheVariants.{Syntax, Range, Twice}
-use Rattle.machine_text.specs.declared.quantity.Quantity.{Quantity}
-use Rattle.machine_text.specs.declared.saying.Says.{Says}
 use Rattle.machine_text.specs.declared.saying.Says.TheVariants.{Nothing, Sets, Limits, Other}
-use Rattle.machine_text.specs.Quantities.{in_range, quantity_of}
-use Rattle.machine_text.specs.Settings.{sets}
+use Rattle.machine_text.specs.declared.{given.Given.Given, machine.Limited.Limited}
+use Rattle.machine_text.specs.declared.machine.{Limited.TheVariants.Functions, Limited.TheVariants.Nodes, Limited.TheVariants.Bits, MachNo.MachNo}
+use Rattle.machine_text.specs.declared.machine.MachNo.TheVariants.{Syntax, Range, Twice}
+use Rattle.machine_text.specs.{declared.quantity.Quantity.Quantity, declared.saying.Says.Says, Quantities.in_range, Quantities.quantity_of, Settings.sets}
 
 -- the number, where it is in the quantity's range
 abbrev pub if_in_range : Quantity → ℕ → Option ℕ

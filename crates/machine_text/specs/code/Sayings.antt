@@ -1,9 +1,7 @@
 -- What the lines of a text say, one after another, each with its number.
 use Rattle.std.specs.Prelude.{ℕ, Bool, true, false, List, [], ◌∷◌, Option}
 use Rattle.text_lines.specs.Words.{words_of}
-use Rattle.machine_text.specs.declared.quantity.Version.{Version}
-use Rattle.machine_text.specs.declared.saying.Says.{Says}
-use Rattle.machine_text.specs.Settings.{line_says, settled}
+use Rattle.machine_text.specs.{declared.quantity.Version.Version, declared.saying.Says.Says, Settings.line_says, Settings.settled}
 
 abbrev pub no_words : List (List ℕ) → Bool
 no_words [] = true

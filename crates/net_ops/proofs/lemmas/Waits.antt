@@ -1,15 +1,9 @@
 -- What a driver says of its signal, and what a gate waits for.
 use Rattle.std.proofs.Common.{◌≡◌, ◌∙◌, ℕ, zero, suc, ◌<◌, ◌⊎◌, inl, inr, Bool, true, false, if◌then◌else◌, List, [], ◌∷◌, length, map, refl, ap, subst, arith, Some}
 use Rattle.std.specs.List.{slice_get, Contains, All}
-use Rattle.logic_four.specs.declared.Kind.{Kind}
-use Rattle.logic_four.specs.Kinds.{AllowsOperands}
-use Rattle.net_defs.specs.declared.netlist.Netlist.{Netlist}
-use Rattle.net_defs.specs.declared.netlist.Signal.{Signal}
-use Rattle.net_defs.specs.declared.netlist.Driver.TheVariants.{Gate}
-use Rattle.net_defs.specs.declared.timing.Timing.{Timing}
-use Rattle.net_defs.specs.Steps.{is_late}
-use Rattle.net_defs.specs.Valid.{IsValid, IsSignal, IsDrivable}
-use Rattle.net_defs.specs.Loops.{waits_for}
+use Rattle.logic_four.specs.{declared.Kind.Kind, Kinds.AllowsOperands}
+use Rattle.net_defs.specs.declared.{netlist.Netlist.Netlist, netlist.Signal.Signal, netlist.Driver.TheVariants.Gate, timing.Timing.Timing}
+use Rattle.net_defs.specs.{Steps.is_late, Valid.IsValid, Valid.IsSignal, Valid.IsDrivable, Loops.waits_for}
 
 -- maps that agree at each item
 pub map_same : {X : Type 0} (f g : ℕ → X) (xs : List ℕ) → ((x : ℕ) → Contains xs x → f x ≡ g x) → map f xs ≡ map g xs

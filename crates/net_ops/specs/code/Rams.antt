@@ -1,9 +1,7 @@
 -- Beside specs/Rams.antt, what only private functions and proofs cite.
 use Rattle.std.specs.Prelude.{◌≡◌, ℕ, ◌+◌, ◌<◌, List, length, map, All}
-use Rattle.logic_four.specs.declared.V4.{V4}
-use Rattle.logic_four.specs.Memory.{memory_act, MemoryAct}
-use Rattle.net_defs.specs.declared.netlist.Block.{Block}
-use Rattle.net_defs.specs.Time.{value_at}
+use Rattle.logic_four.specs.{declared.V4.V4, Memory.memory_act, Memory.MemoryAct}
+use Rattle.net_defs.specs.{declared.netlist.Block.Block, Time.value_at}
 
 -- a memory that reads from a place on finds its operands among so many values, and its outputs too
 pub record ReadsWithin (base count : ℕ) (memory : Block) : Type 0 where

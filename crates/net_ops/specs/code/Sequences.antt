@@ -2,9 +2,7 @@
 use Rattle.std.specs.Prelude.{◌≡◌, ◌≢◌, ℕ, ◌+◌, List, ◌++◌, length, Option, All}
 use Rattle.logic_four.specs.declared.V4.{V4}
 use Rattle.net_defs.specs.Time.{value_at}
-use Rattle.net_ops.specs.declared.ops.PairOp.{PairOp}
-use Rattle.net_ops.specs.Lanes.{forced}
-use Rattle.net_ops.specs.Ops.{follow, IsWithin}
+use Rattle.net_ops.specs.{declared.ops.PairOp.PairOp, Lanes.forced, Ops.follow, Ops.IsWithin}
 
 -- operations were added by which a signal has its value over a row, or what it is stuck at, and all else stays
 pub record Adds {F : Type 0} (answer : F → V4 → V4 → V4) (is_form : F → Type 0) (signals place : ℕ) (value : List V4 → V4) (old new : List (PairOp F)) : Type 0 where

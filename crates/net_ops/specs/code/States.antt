@@ -1,29 +1,14 @@
 -- Beside specs/States.antt, what only private functions and proofs cite.
 use Rattle.std.specs.Prelude.{◌≡◌, ◌≢◌, ℕ, ◌+◌, ◌<◌, ◌≤◌, ◌==◌, Bool, true, false, nat_lt, if◌then◌else◌, List, [], length, map, IsTrue, Option, Some, None, slice_get, slice_index_or}
-use Rattle.logic_four.specs.declared.V4.{V4}
-use Rattle.logic_four.specs.declared.V4.TheVariants.{Undef}
-use Rattle.net_defs.specs.declared.netlist.Netlist.{Netlist}
-use Rattle.net_defs.specs.declared.netlist.Signal.{Signal}
-use Rattle.net_defs.specs.declared.netlist.Block.{Block}
-use Rattle.net_defs.specs.declared.netlist.Driver.{Driver}
+use Rattle.logic_four.specs.{declared.V4.V4, declared.V4.TheVariants.Undef, Gates.gate_value, Memory.initial_words, Values.settled}
 use Rattle.net_defs.specs.declared.netlist.Driver.TheVariants.{Input, Gate, Dff, BlockBit}
-use Rattle.net_defs.specs.Time.{value_at, is_edge, initial_value}
-use Rattle.net_defs.specs.Valid.{is_input}
 use Rattle.net_defs.specs.Steps.{State, values_of, is_late, act_of, words_of, output_bit}
-use Rattle.logic_four.specs.Gates.{gate_value}
-use Rattle.logic_four.specs.Memory.{initial_words}
-use Rattle.net_ops.specs.declared.schedule.Giver.{Giver}
+use Rattle.net_defs.specs.declared.netlist.{Netlist.Netlist, Signal.Signal, Block.Block, Driver.Driver}
+use Rattle.net_defs.specs.{Time.value_at, Time.is_edge, Time.initial_value, Valid.is_input, declared.timing.Timing.Timing, Loops.is_gate_driver}
+use Rattle.net_ops.specs.declared.{schedule.Giver.Giver, schedule.Source.Source, state.LaneState.LaneState, step.Phase.Phase}
+use Rattle.net_ops.specs.{Lanes.forced, Lanes.lane_row, Schedules.source_at, code.Places.last_row}
 use Rattle.net_ops.specs.declared.schedule.Giver.TheVariants as giver
-use Rattle.net_ops.specs.declared.schedule.Source.{Source}
-use Rattle.net_ops.specs.declared.state.LaneState.{LaneState}
-use Rattle.net_ops.specs.declared.step.Phase.{Phase}
 use Rattle.net_ops.specs.declared.step.Phase.TheVariants as phase
-use Rattle.net_ops.specs.Lanes.{forced, lane_row}
-use Rattle.net_ops.specs.Schedules.{source_at}
-use Rattle.net_ops.specs.code.Places.{last_row}
-use Rattle.logic_four.specs.Values.{settled}
-use Rattle.net_defs.specs.declared.timing.Timing.{Timing}
-use Rattle.net_defs.specs.Loops.{is_gate_driver}
 
 -- the last state of a lane, as long as this turn has changed no memory
 abbrev pub last_state : {W : Type 0} → (W → ℕ → V4) → Netlist → ℕ → LaneState W → State

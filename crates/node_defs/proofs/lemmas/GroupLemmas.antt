@@ -1,11 +1,10 @@
 -- The groups of a gate, level by level.
 use Rattle.std.proofs.Common.{◌≡◌, ◌∙◌, ℕ, zero, suc, ◌+◌, ◌-◌, ◌*◌, ◌<◌, ◌≤◌, nat_le, true, false, List, [], ◌∷◌, ◌++◌, length, map, get_or, refl, arith}
-use Rattle.std.specs.List.{range_with_len}
-use Rattle.std.proofs.lemmas.Bool.{le-leb, lt-leb}
-use Rattle.std.proofs.lemmas.List.{length-append, get_or_append_left, get_or-append_right}
+use Rattle.std.proofs.lemmas.{Bool.le-leb, Bool.lt-leb, List.length-append, List.get_or_append_left, List.get_or-append_right}
 use Rattle.std.proofs.lemmas.List.FromFn.{length-map-range_with_len, get_or-map-range_with_len}
-use Rattle.node_defs.specs.declared.groups.Group.{Group}
+use Rattle.std.specs.List.{range_with_len}
 use Rattle.node_defs.specs.Groups.{group_count, group_of, groups_from, groups}
+use Rattle.node_defs.specs.declared.groups.Group.{Group}
 
 -- no group
 abbrev pub nowhere : Group

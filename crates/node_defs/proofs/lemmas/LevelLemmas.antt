@@ -1,19 +1,13 @@
 -- A gate over its last group of wires answers what it answers over its operands, where each helper has
 -- what the gate's base kind answers over its group.
 use Rattle.std.proofs.Common.{◌≡◌, ◌∙◌, ◌⊎◌, inl, inr, ℕ, zero, suc, ◌+◌, ◌-◌, ◌*◌, ◌<◌, ◌≤◌, min, IsTrue, List, [], ◌∷◌, ◌++◌, length, map, get_or, refl, sym, ap, arith}
-use Rattle.std.specs.List.{range_with_len, flat_map}
-use Rattle.std.proofs.lemmas.Bool.{cases_lt}
 use Rattle.std.proofs.lemmas.List.{length-append, length-map, get_or_append_left, get_or-append-add, map-append, append-nil, same_lists, get_or-map}
-use Rattle.std.proofs.lemmas.List.Concat.{flat_map-cons}
-use Rattle.std.proofs.lemmas.List.FromFn.{length-map-range_with_len, get_or-map-range_with_len}
+use Rattle.std.proofs.lemmas.{Bool.cases_lt, List.Concat.flat_map-cons, List.FromFn.length-map-range_with_len, List.FromFn.get_or-map-range_with_len}
+use Rattle.std.specs.List.{range_with_len, flat_map}
 use Rattle.list_laws.proofs.Ranges.{range_append}
-use Rattle.logic_four.specs.declared.V4.{V4}
-use Rattle.logic_four.specs.declared.Kind.{Kind}
-use Rattle.logic_four.specs.Gates.{gate_value}
-use Rattle.logic_four.specs.Folds.{takes_many, base_kind}
+use Rattle.logic_four.specs.{declared.V4.V4, declared.Kind.Kind, Gates.gate_value, Folds.takes_many, Folds.base_kind}
 use Rattle.logic_four.proofs.lemmas.FoldLemmas.{groups}
-use Rattle.node_defs.specs.declared.groups.Group.{Group}
-use Rattle.node_defs.specs.Groups.{group_count, group_of, groups_from}
+use Rattle.node_defs.specs.{declared.groups.Group.Group, Groups.group_count, Groups.group_of, Groups.groups_from}
 use Rattle.node_defs.proofs.lemmas.GroupLemmas.{nowhere, level_of, level_length, level_at, groups_narrow, groups_wide}
 
 -- the values of these wires

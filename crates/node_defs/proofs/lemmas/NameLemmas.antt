@@ -2,15 +2,9 @@
 use Rattle.std.proofs.Common.{◌≡◌, ℕ, ◌<◌, length, get_or, Option, ap₂, arith, refl}
 use Rattle.std.proofs.lemmas.Option.{slice_get-get_or, slice_get_within}
 use Rattle.std.specs.Prelude.{Some, None, slice_get}
-use Rattle.net_defs.specs.declared.netlist.Netlist.{Netlist}
-use Rattle.net_defs.specs.declared.timing.Timing.{Timing}
-use Rattle.net_defs.specs.declared.netlist.Signal.{Signal}
-use Rattle.net_defs.specs.Steps.{is_late}
-use Rattle.node_defs.specs.declared.items.ItemName.{ItemName}
-use Rattle.node_defs.specs.declared.items.NodeNet.{NodeNet}
+use Rattle.net_defs.specs.{declared.netlist.Netlist.Netlist, declared.timing.Timing.Timing, declared.netlist.Signal.Signal, Steps.is_late}
 use Rattle.node_defs.specs.Items.{own, IsNamed, IsItem, IsItemOf}
-use Rattle.node_defs.specs.Order.{AreItems}
-use Rattle.node_defs.specs.declared.items.Item.{Item}
+use Rattle.node_defs.specs.{declared.items.ItemName.ItemName, declared.items.NodeNet.NodeNet, Order.AreItems, declared.items.Item.Item}
 
 -- the name of the item at a place
 pub name_at : NodeNet → ℕ → ItemName

@@ -1,9 +1,8 @@
 -- How many groups a gate has, and their sizes and places.
 use Rattle.std.proofs.Common.{◌≡◌, ℕ, zero, suc, ◌+◌, ◌-◌, ◌*◌, ◌<◌, ◌≤◌, [], ◌∷◌, ◌++◌, length, get_or, inl, inr, refl, arith}
-use Rattle.std.proofs.lemmas.Bool.{cases_lt}
-use Rattle.std.proofs.lemmas.List.{length-append, get_or_append_left, get_or-append_right}
-use Rattle.node_defs.specs.declared.groups.Group.{Group}
+use Rattle.std.proofs.lemmas.{Bool.cases_lt, List.length-append, List.get_or_append_left, List.get_or-append_right}
 use Rattle.node_defs.specs.Groups.{group_count, groups_from, groups, group_at}
+use Rattle.node_defs.specs.declared.groups.Group.{Group}
 use Rattle.node_defs.proofs.lemmas.GroupLemmas.{nowhere, level_of, groups_narrow, groups_wide, level_length, level_at}
 
 -- so many wires stand before this group's last, where its level begins with so many

@@ -1,18 +1,10 @@
 -- The items as they are made, by the keys in order.
 use Rattle.std.specs.Prelude.{◌≡◌, ℕ, ◌+◌, ◌<◌, ◌≤◌, List, length, Option, Some, slice_get, option_map}
-use Rattle.net_defs.specs.declared.netlist.Netlist.{Netlist}
-use Rattle.net_defs.specs.declared.netlist.Block.{Block}
-use Rattle.net_defs.specs.declared.netlist.Driver.{Driver}
-use Rattle.net_defs.specs.declared.timing.Timing.{Timing}
+use Rattle.net_defs.specs.declared.{netlist.Netlist.Netlist, netlist.Block.Block, netlist.Driver.Driver, timing.Timing.Timing}
 use Rattle.func_table.specs.declared.table.Table.{Table}
-use Rattle.node_defs.specs.declared.items.Feeds.{Feeds}
-use Rattle.node_defs.specs.declared.items.Item.{Item}
-use Rattle.node_defs.specs.declared.items.Item.TheVariants.{Node}
-use Rattle.node_defs.specs.declared.items.ItemName.{ItemName}
-use Rattle.node_defs.specs.declared.items.NodeBlock.{NodeBlock}
+use Rattle.node_defs.specs.declared.items.{Feeds.Feeds, Item.Item, Item.TheVariants.Node, ItemName.ItemName, NodeBlock.NodeBlock}
 use Rattle.node_defs.specs.Items.{IsItem, IsNodeBlock}
-use Rattle.node_map.specs.declared.keys.Key.{Key}
-use Rattle.node_map.specs.code.Places.{name_of}
+use Rattle.node_map.specs.{declared.keys.Key.Key, code.Places.name_of}
 
 -- the driver of a signal
 abbrev pub driver_at : Netlist → ℕ → Option Driver

@@ -1,18 +1,11 @@
 -- The nodes of a gate as they are made.
 use Rattle.std.specs.Prelude.{◌≡◌, ℕ, ◌+◌, ◌<◌, ◌≤◌, nat_lt, Bool, if◌then◌else◌, List, length}
-use Rattle.logic_four.specs.declared.V4.TheVariants.{Zero}
-use Rattle.logic_four.specs.declared.Kind.{Kind}
-use Rattle.logic_four.specs.Folds.{base_kind}
+use Rattle.logic_four.specs.{declared.V4.TheVariants.Zero, declared.Kind.Kind, Folds.base_kind}
 use Rattle.func_table.specs.declared.table.Table.{Table}
-use Rattle.node_defs.specs.declared.groups.Group.{Group}
-use Rattle.node_defs.specs.declared.items.Feed.{Feed}
-use Rattle.node_defs.specs.declared.items.Feed.TheVariants.{From, Fixed}
-use Rattle.node_defs.specs.declared.items.Feeds.{Feeds}
-use Rattle.node_defs.specs.declared.items.Item.{Item}
-use Rattle.node_defs.specs.declared.items.Item.TheVariants.{Node}
-use Rattle.node_defs.specs.declared.items.ItemName.{ItemName}
-use Rattle.node_defs.specs.Groups.{group_at, helper_count}
 use Rattle.node_defs.specs.Items.{IsNamed, wire_name, wire_tag, feed_at, IsNode}
+use Rattle.node_defs.specs.declared.{groups.Group.Group, items.Feed.Feed, items.Feed.TheVariants.From, items.Feed.TheVariants.Fixed, items.Feeds.Feeds}
+use Rattle.node_defs.specs.declared.items.{Item.Item, Item.TheVariants.Node, ItemName.ItemName}
+use Rattle.node_defs.specs.Groups.{group_at, helper_count}
 
 -- the operand takes this wire
 abbrev pub IsFeed : List ItemName → Bool → ℕ → List ℕ → ℕ → Feed → Type 0

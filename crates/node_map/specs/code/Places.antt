@@ -1,16 +1,10 @@
 -- The items of each signal by their places, and keys that order them.
 use Rattle.std.specs.Prelude.{◌≡◌, ℕ, zero, suc, ◌+◌, ◌-◌, ◌<◌, ◌≤◌, nat_lt, if◌then◌else◌, ◌⊎◌, ◌^◌, List, [], ◌++◌, length, map, Some, None, slice_get, slice_index}
-use Rattle.std.specs.List.{range_with_len}
-use Rattle.std.specs.declared.cmp.Ordering.{Ordering}
-use Rattle.std.specs.Ordering.{nat_cmp, on, then_cmp}
-use Rattle.net_defs.specs.declared.netlist.Netlist.{Netlist}
-use Rattle.net_defs.specs.declared.timing.Timing.{Timing}
-use Rattle.node_defs.specs.declared.items.ItemName.{ItemName}
-use Rattle.node_defs.specs.Items.{IsNamed}
-use Rattle.node_map.specs.declared.keys.Key.{Key}
-use Rattle.node_map.specs.declared.numbering.Numbering.{Numbering}
-use Rattle.net_defs.specs.Steps.{is_late}
+use Rattle.std.specs.{List.range_with_len, declared.cmp.Ordering.Ordering, Ordering.nat_cmp, Ordering.on, Ordering.then_cmp}
+use Rattle.net_defs.specs.{declared.netlist.Netlist.Netlist, declared.timing.Timing.Timing, Steps.is_late}
+use Rattle.node_defs.specs.{declared.items.ItemName.ItemName, Items.IsNamed}
 use Rattle.node_map.specs.code.Wires.{operands_of, helpers_at, class_at, pasts_of}
+use Rattle.node_map.specs.declared.{keys.Key.Key, numbering.Numbering.Numbering}
 
 -- where the items of a signal begin, where all stand by signal and place
 abbrev pub start_of : Netlist → ℕ → ℕ

@@ -1,8 +1,7 @@
 -- Tables by kind and number of operands.
 use Rattle.std.specs.Prelude.{◌≡◌, ℕ, ◌<◌, ◌≤◌, List, length, Some, slice_get}
 use Rattle.logic_four.specs.declared.Kind.{Kind}
-use Rattle.func_table.specs.declared.table.Table.{Table}
-use Rattle.func_table.specs.Entries.{IsTableOf}
+use Rattle.func_table.specs.{declared.table.Table.Table, Entries.IsTableOf}
 use Rattle.node_map.specs.declared.palette.Made.{Made}
 
 -- each of the old tables keeps its number

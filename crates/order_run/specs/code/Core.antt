@@ -1,15 +1,8 @@
 -- Beside specs/Core.antt, what only private functions and proofs cite.
 use Rattle.std.specs.Prelude.{List, ℕ, ◌≡◌, ◌≤◌}
 use Rattle.std.specs.List.{range_with_len}
-use Rattle.image_defs.specs.Frames.{image_value}
-use Rattle.image_defs.specs.Places.{IsPort}
-use Rattle.image_defs.specs.WellFormed.{IsWellFormed}
-use Rattle.image_defs.specs.declared.image.PortImage.{PortImage}
-use Rattle.event_defs.specs.Counts.{moved_in}
-use Rattle.event_defs.specs.Next.{IsNext}
-use Rattle.event_defs.specs.Steps.{AreSteps}
-use Rattle.event_defs.specs.declared.place.Action.{Action}
-use Rattle.event_defs.specs.declared.place.CoreStep.{CoreStep}
+use Rattle.image_defs.specs.{Frames.image_value, Places.IsPort, WellFormed.IsWellFormed, declared.image.PortImage.PortImage}
+use Rattle.event_defs.specs.{Counts.moved_in, Next.IsNext, Steps.AreSteps, declared.place.Action.Action, declared.place.CoreStep.CoreStep}
 use Rattle.order_run.specs.Core.{CoreView, turns_of, state_of, IsSoundCore, IsSameCore}
 
 -- this is the next event of port p

@@ -1,13 +1,8 @@
 -- Beside specs/CorePorts.antt, what only private functions and proofs cite.
 use Rattle.std.specs.Prelude.{List, Some, [], length, slice_get, slice_index_or, slice_set, ℕ, ◌*◌, ◌++◌, ◌+◌, ◌-◌, ◌/◌, ◌<◌, ◌∷◌, ◌≡◌}
-use Rattle.logic_four.specs.Values.{code_of, value_at}
-use Rattle.logic_four.specs.declared.V4.{V4}
-use Rattle.image_defs.specs.Frames.{shown}
-use Rattle.image_defs.specs.Places.{host_of}
-use Rattle.image_defs.specs.declared.image.LinkIn.{LinkIn}
-use Rattle.image_defs.specs.declared.image.LinkOut.{LinkOut}
-use Rattle.event_defs.specs.Row.{word_place}
-use Rattle.event_defs.specs.declared.place.Action.{Action}
+use Rattle.logic_four.specs.{Values.code_of, Values.value_at, declared.V4.V4}
+use Rattle.image_defs.specs.{Frames.shown, Places.host_of, declared.image.LinkIn.LinkIn, declared.image.LinkOut.LinkOut}
+use Rattle.event_defs.specs.{Row.word_place, declared.place.Action.Action}
 use Rattle.port_host.specs.Rows.{printed_sources}
 use Rattle.port_walk.specs.Placed.{IsNextOf, IsReceiving, IsSending, in_next_turn}
 use Rattle.order_run.specs.declared.core_ports.CorePort.{CorePort}

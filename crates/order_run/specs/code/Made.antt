@@ -1,13 +1,9 @@
 -- What a core is made of.
 use Rattle.std.specs.Prelude.{List, Some, length, max, replicate, slice_get, ℕ, ◌%◌, ◌≡◌}
-use Rattle.net_defs.specs.Time.{cycle_count}
-use Rattle.net_defs.specs.declared.stimulus.Stimulus.{Stimulus}
-use Rattle.image_defs.specs.Places.{IsPort}
-use Rattle.image_defs.specs.declared.image.Image.{Image}
-use Rattle.image_defs.specs.declared.image.PortImage.{PortImage}
-use Rattle.event_defs.specs.Row.{sends_before}
+use Rattle.net_defs.specs.{Time.cycle_count, declared.stimulus.Stimulus.Stimulus}
+use Rattle.image_defs.specs.{Places.IsPort, declared.image.Image.Image, declared.image.PortImage.PortImage}
+use Rattle.event_defs.specs.{Row.sends_before, Sources.AreSources}
 use Rattle.port_walk.specs.Placed.{at_start}
-use Rattle.event_defs.specs.Sources.{AreSources}
 use Rattle.order_run.specs.declared.core_ports.CorePort.{CorePort}
 
 -- the window of a port that runs all cycles in one block

@@ -1,7 +1,6 @@
 -- The steps that a core has made, and where it stands.
 use Rattle.std.specs.Prelude.{◌≡◌, ◌⊎◌, ℕ, List, None, Option, Some}
-use Rattle.event_defs.specs.declared.place.CoreStep.{CoreStep}
-use Rattle.event_defs.specs.Steps.{AreSteps}
+use Rattle.event_defs.specs.{declared.place.CoreStep.CoreStep, Steps.AreSteps}
 use Rattle.order_run.specs.Core.{AreDone, CoreView, IsSameCore, rows_of, state_of, turns_of}
 
 -- a core has made the steps of these ports, one by one

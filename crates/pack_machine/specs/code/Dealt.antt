@@ -1,14 +1,12 @@
 -- Packed ports that are dealt to the workers of a crew.
 use Rattle.std.specs.Prelude.{List, length, ℕ, ◌<◌, ◌≡◌}
 use Rattle.crew_run.specs.declared.worker.Worker.{Worker}
-use Rattle.image_defs.specs.Places.{host_of}
-use Rattle.image_defs.specs.WellFormed.{IsWellFormed}
+use Rattle.image_defs.specs.{Places.host_of, WellFormed.IsWellFormed}
 use Rattle.machine_run.specs.Dealt.{AreDealtFrom}
 use Rattle.pack_run.specs.declared.seated.PackSeated.{PackSeated}
 use Rattle.slot_words.specs.packed.Passes.{IsFirstPass, PackPassView}
 use Rattle.stim_text.specs.Lanes.{AreLanes}
-use Rattle.pack_machine.specs.code.Crews.{PackCrew}
-use Rattle.pack_machine.specs.declared.seats.PackSeats.{PackSeats}
+use Rattle.pack_machine.specs.{code.Crews.PackCrew, declared.seats.PackSeats.PackSeats}
 
 -- a port of the crew's run, in the turn of the crew
 pub record IsSeatOf (crew : PackCrew) (seat : PackSeated) : Type 0 where

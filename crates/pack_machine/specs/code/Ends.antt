@@ -1,9 +1,7 @@
 -- The host of a run that is over.
 use Rattle.std.specs.Prelude.{◌+◌, ◌≡◌}
-use Rattle.image_defs.specs.Places.{host_of}
-use Rattle.image_defs.specs.declared.image.Image.{Image}
-use Rattle.slot_words.specs.packed.Passes.{PackPassView}
-use Rattle.slot_words.specs.packed.Words.{turns_of}
+use Rattle.image_defs.specs.{Places.host_of, declared.image.Image.Image}
+use Rattle.slot_words.specs.packed.{Passes.PackPassView, Words.turns_of}
 use Rattle.stim_text.specs.declared.lanes.Lanes.{Lanes}
 
 -- this is the host of a run of the image on lanes, which has made all turns

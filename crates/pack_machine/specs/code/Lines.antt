@@ -2,12 +2,11 @@
 use Rattle.std.specs.Prelude.{List, ℕ, length, ◌≡◌}
 use Rattle.machine_run.specs.Lines.{cells_shown}
 use Rattle.image_defs.specs.declared.image.Image.{Image}
-use Rattle.trace_text.specs.Lines.{HasMarkRoom}
+use Rattle.trace_text.specs.{Lines.HasMarkRoom, Line.HasRoom}
 use Rattle.logic_four.specs.declared.V4.{V4}
 use Rattle.net_defs.specs.declared.netlist.Netlist.{Netlist}
 use Rattle.port_host.specs.Rows.{printed_sources}
 use Rattle.stim_text.specs.Lanes.{own_stimulus}
-use Rattle.trace_text.specs.Line.{HasRoom}
 use Rattle.pack_machine.specs.declared.lines.LaneLines.{LaneLines}
 use Rattle.slot_words.specs.packed.Passes.{PackPassView}
 

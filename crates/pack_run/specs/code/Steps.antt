@@ -1,7 +1,6 @@
 -- Beside specs/Steps.antt, what only private functions and proofs cite.
 use Rattle.std.specs.Prelude.{ℕ}
-use Rattle.image_defs.specs.Places.{IsPort}
-use Rattle.image_defs.specs.declared.image.PortImage.{PortImage}
+use Rattle.image_defs.specs.{Places.IsPort, declared.image.PortImage.PortImage}
 use Rattle.event_defs.specs.Next.{AsksNext, PutsNext, TakesNext, TellsNext}
 use Rattle.crew_run.specs.declared.stepper.Step.{Step}
 use Rattle.port_run.specs.code.Steps as plain

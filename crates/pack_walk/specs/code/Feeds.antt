@@ -1,17 +1,11 @@
 -- What the inputs have in each lane, cycle by cycle.
 use Rattle.std.specs.Prelude.{◌≡◌, ℕ, ◌+◌, ◌<◌, ◌≤◌, List, [], length, Some, slice_get, slice_index_or}
 use Rattle.limits.specs.declared.TheConstants.{LANES}
-use Rattle.logic_four.specs.declared.V4.{V4}
-use Rattle.logic_four.specs.Values.{value_at}
-use Rattle.net_defs.specs.declared.stimulus.Stimulus.{Stimulus}
-use Rattle.net_defs.specs.Time.{cycle_rows}
-use Rattle.net_defs.specs.Valid.{IsValidStimulus}
-use Rattle.lane_planes.specs.declared.planes.Planes.{Planes}
-use Rattle.lane_planes.specs.Lanes.{lane_of}
-use Rattle.stim_text.specs.declared.lanes.Lanes.{Lanes}
-use Rattle.stim_text.specs.Lanes.{own_stimulus, AreLanes}
-use Rattle.port_host.specs.declared.cursor.RowCursor.{RowCursor}
-use Rattle.port_host.specs.Rows.{IsAt}
+use Rattle.logic_four.specs.{declared.V4.V4, Values.value_at}
+use Rattle.net_defs.specs.{declared.stimulus.Stimulus.Stimulus, Time.cycle_rows, Valid.IsValidStimulus}
+use Rattle.lane_planes.specs.{declared.planes.Planes.Planes, Lanes.lane_of}
+use Rattle.stim_text.specs.{declared.lanes.Lanes.Lanes, Lanes.own_stimulus, Lanes.AreLanes}
+use Rattle.port_host.specs.{declared.cursor.RowCursor.RowCursor, Rows.IsAt}
 use Rattle.pack_walk.specs.declared.feed.Feed.TheInside.{Inside}
 
 -- ---- cursors

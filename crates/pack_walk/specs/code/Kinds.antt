@@ -1,13 +1,10 @@
 -- What only private functions and proofs cite: a packed port of any kind.
 use Rattle.std.specs.Prelude.{◌≡◌, ℕ, Option, None, Some}
-use Rattle.stim_text.specs.declared.lanes.Lanes.{Lanes}
-use Rattle.stim_text.specs.Lanes.{longest}
-use Rattle.image_defs.specs.declared.image.Image.{Image}
-use Rattle.image_defs.specs.Ports.{at_first}
+use Rattle.stim_text.specs.{declared.lanes.Lanes.Lanes, Lanes.longest}
+use Rattle.image_defs.specs.{declared.image.Image.Image, Ports.at_first}
 use Rattle.port_bank.specs.Packed.{PackPortView}
 use Rattle.port_walk.specs.Kinds.{rows_of}
-use Rattle.pack_walk.specs.declared.kind.PackKind.{PackKind}
-use Rattle.pack_walk.specs.declared.kind.PackKind.TheVariants.{Logic, Array, Host}
+use Rattle.pack_walk.specs.declared.kind.PackKind.{PackKind, TheVariants.Logic, TheVariants.Array, TheVariants.Host}
 
 -- how far it has come
 abbrev pub view_in : PackKind → PackPortView

@@ -1,7 +1,6 @@
 -- Bits that are added one after another.
 use Rattle.std.proofs.Common.{◌∙◌, ◌⊎◌, ◌↔◌, inl, inr, ℕ}
-use Rattle.plan_defs.specs.declared.bit_rows.BitRows.{BitRows}
-use Rattle.plan_defs.specs.Bits.{HasBit, Adds}
+use Rattle.plan_defs.specs.{declared.bit_rows.BitRows.BitRows, Bits.HasBit, Bits.Adds}
 
 -- what is added in two steps is added
 pub adds_both : (a b c : BitRows) (P Q R : ℕ → ℕ → Type 0) → Adds a b P → Adds b c Q → ((row bit : ℕ) → R row bit ↔ (P row bit ⊎ Q row bit)) → Adds a c R

@@ -1,21 +1,17 @@
 -- How many items, tables and memories there are.
 use Rattle.std.proofs.Common.{◌≡◌, ◌≢◌, ◌∙◌, ◌⊎◌, inl, inr, ℕ, zero, suc, ◌+◌, ◌<◌, ◌≤◌, Bool, List, [], ◌∷◌, ◌++◌, length, take, map, get_or, cond, sym, ap, subst, arith, true, false, if◌then◌else◌, ◌==◌}
-use Rattle.std.specs.Prelude.{Some, slice_get}
-use Rattle.std.specs.List.{All, AllPairs, Contains, sum_by, count_by, range_with_len}
-use Rattle.std.proofs.lemmas.Bool.{cases_lt, eqb-true}
-use Rattle.std.proofs.lemmas.Bool.Decides.{Decides-eqb}
-use Rattle.std.proofs.lemmas.Map.Made.{IsDistinct-from_AllPairs}
-use Rattle.std.proofs.lemmas.Map.Steps.{length-le_from_distinct_below}
-use Rattle.std.proofs.lemmas.Map.Views.{Contains-from_any}
-use Rattle.std.proofs.lemmas.Option.{slice_get_within, get_or_from_slice_get}
+use Rattle.std.proofs.lemmas.List.Sums.{sum_by-cons, sum_by_more, sum_by_more_le, sum_by-le}
+use Rattle.std.proofs.lemmas.{Bool.cases_lt, Bool.eqb-true, Bool.Decides.Decides-eqb, Map.Made.IsDistinct-from_AllPairs}
+use Rattle.std.proofs.lemmas.{Map.Steps.length-le_from_distinct_below, Map.Views.Contains-from_any, Option.slice_get_within, Option.get_or_from_slice_get}
 use Rattle.std.proofs.lemmas.List.{length-append, get_or_default}
 use Rattle.std.proofs.lemmas.List.FromFn.{length-map-range_with_len, get_or-map-range_with_len, length-range_with_len}
-use Rattle.std.proofs.lemmas.List.Sums.{sum_by-cons, sum_by_more, sum_by_more_le, sum_by-le}
+use Rattle.std.specs.List.{All, AllPairs, Contains, sum_by, count_by, range_with_len}
+use Rattle.std.specs.Prelude.{Some, slice_get}
 use Rattle.plan_defs.specs.Picks.{nodes_before}
 use Rattle.node_defs.specs.Groups.{group_count, groups_from, groups, helper_count}
-use Rattle.node_defs.proofs.lemmas.LevelLemmas.{groups_last}
-use Rattle.node_defs.proofs.lemmas.GroupLemmas.{groups_narrow, groups_wide, level_of, level_length}
 use Rattle.node_defs.specs.declared.items.NodeNet.{NodeNet}
+use Rattle.node_defs.proofs.lemmas.GroupLemmas.{groups_narrow, groups_wide, level_of, level_length}
+use Rattle.node_defs.proofs.lemmas.LevelLemmas.{groups_last}
 
 -- different numbers below a bound are no more than it
 pub few_below : (xs : List ℕ) (n : ℕ) → ((i j : ℕ) → i < j → j < length xs → get_or xs i 0 ≢ get_or xs j 0) → ((i : ℕ) → i < length xs → get_or xs i 0 < n) → length xs ≤ n

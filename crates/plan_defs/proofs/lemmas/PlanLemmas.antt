@@ -1,15 +1,9 @@
 -- First-fit plans: items that would meet are apart, and there is one plan.
 use Rattle.std.proofs.Common.{◌≡◌, ◌∙◌, ◌⊎◌, inl, inr, ℕ, zero, suc, ◌+◌, ◌<◌, ◌≤◌, max, fold, List, [], ◌∷◌, length, get_or, sym, ap, subst, arith}
-use Rattle.std.proofs.lemmas.Bool.{cases_order}
-use Rattle.std.proofs.lemmas.List.{ext_get_or}
-use Rattle.node_defs.specs.declared.items.NodeNet.{NodeNet}
-use Rattle.node_defs.specs.WellFormed.{IsWellFormed}
-use Rattle.plan_defs.specs.declared.plan.Homes.{Homes}
-use Rattle.plan_defs.specs.declared.plan.Plan.{Plan}
-use Rattle.plan_defs.specs.Homes.{home_of}
-use Rattle.plan_defs.specs.Lists.{IsLeastFree}
-use Rattle.plan_defs.specs.Readers.{IsReader}
+use Rattle.std.proofs.lemmas.{Bool.cases_order, List.ext_get_or}
+use Rattle.node_defs.specs.{declared.items.NodeNet.NodeNet, WellFormed.IsWellFormed}
 use Rattle.plan_defs.specs.Slots.{slot_of, IsBlocked, AreFirstFit, IsFirstFitPlan, needed_of}
+use Rattle.plan_defs.specs.{declared.plan.Homes.Homes, declared.plan.Plan.Plan, Homes.home_of, Lists.IsLeastFree, Readers.IsReader}
 
 -- two numbers are equal where neither is below the other
 neither_below : (i j : ℕ) → (i < j → ⊥) → (j < i → ⊥) → i ≡ j

@@ -1,14 +1,10 @@
 -- Homes and users are ports.
 use Rattle.std.proofs.Common.{◌≡◌, inl, inr, ℕ, ◌<◌, length, subst, arith}
-use Rattle.std.proofs.lemmas.Option.{slice_get_within, slice_get_cases}
-use Rattle.std.proofs.lemmas.List.Elements.{All-contains}
-use Rattle.node_defs.specs.declared.items.Item.{Item}
+use Rattle.std.proofs.lemmas.{Option.slice_get_within, Option.slice_get_cases, List.Elements.All-contains}
 use Rattle.node_defs.specs.declared.items.Item.TheVariants.{Input, BlockBit, Node, Latch}
-use Rattle.node_defs.specs.declared.items.NodeNet.{NodeNet}
-use Rattle.node_defs.specs.WellFormed.{IsWellFormed, NamesParts}
-use Rattle.plan_defs.specs.declared.plan.Homes.{Homes}
+use Rattle.node_defs.specs.{declared.items.Item.Item, declared.items.NodeNet.NodeNet, WellFormed.IsWellFormed, WellFormed.NamesParts}
 use Rattle.plan_defs.specs.Homes.{AreHomes, MayHouse, home_of, block_home, ports_of}
-use Rattle.plan_defs.specs.Readers.{IsUser, IsReader}
+use Rattle.plan_defs.specs.{declared.plan.Homes.Homes, Readers.IsUser, Readers.IsReader}
 
 housing_port : (nodes : NodeNet) (homes : Homes) (item : Item) (port : ℕ) → AreHomes nodes homes → NamesParts nodes item → MayHouse homes item port → port < ports_of homes
 housing_port nodes homes (Input column) port are parts houses = omega (arith, houses)

@@ -1,40 +1,26 @@
 -- The items of a valid netlist are what planning asks of them.
 use Rattle.std.proofs.Common.{◌≡◌, ◌≢◌, ◌∙◌, ◌⊎◌, inl, inr, ℕ, zero, suc, ◌+◌, ◌*◌, ◌^◌, ◌<◌, ◌≤◌, Bool, true, List, length, take, get_or, cond, refl, sym, ap, subst, arith}
+use Rattle.std.proofs.lemmas.{Bool.cases_lt, Bool.cases_order, Option.slice_get-get_or, Option.slice_get_within, Option.get_or_from_slice_get}
+use Rattle.std.proofs.lemmas.List.{get_or_default, Elements.All-from_get_or, FromFn.length-range_with_len, Sums.count_by_more_yes, Sums.sum_by-take-le}
 use Rattle.std.specs.Prelude.{◌↔◌, Option, Some, None, slice_get, All, Contains}
 use Rattle.std.specs.List.{sum_by, count_by}
-use Rattle.std.proofs.lemmas.Bool.{cases_lt, cases_order}
-use Rattle.std.proofs.lemmas.Option.{slice_get-get_or, slice_get_within, get_or_from_slice_get}
-use Rattle.std.proofs.lemmas.List.{get_or_default}
-use Rattle.std.proofs.lemmas.List.Elements.{All-from_get_or}
-use Rattle.std.proofs.lemmas.List.FromFn.{length-range_with_len}
-use Rattle.std.proofs.lemmas.List.Sums.{count_by_more_yes, sum_by-take-le}
 use Rattle.func_table.specs.declared.table.Table.{Table}
 use Rattle.list_laws.proofs.Members.{member_at}
 use Rattle.limits.specs.declared.TheConstants.{MAX_NODES}
 use Rattle.logic_four.proofs.lemmas.KindLemmas.{few_operands, some_operands}
-use Rattle.net_defs.specs.declared.netlist.Netlist.{Netlist}
-use Rattle.net_defs.specs.declared.netlist.Signal.{Signal}
-use Rattle.net_defs.specs.declared.netlist.Block.{Block}
-use Rattle.net_defs.specs.declared.netlist.Driver.{Driver}
-use Rattle.net_defs.specs.declared.netlist.Driver.TheVariants as driver
-use Rattle.net_defs.specs.declared.timing.Timing.{Timing}
-use Rattle.net_defs.specs.Steps.{is_late}
 use Rattle.net_defs.specs.Valid.{IsValid, IsDrivable, IsMemory, is_input as is_input_driver, operand_count, memory_operand_count}
-use Rattle.node_defs.specs.declared.items.Tag.TheVariants.{This, Last}
-use Rattle.node_defs.specs.declared.items.Feed.{Feed}
-use Rattle.node_defs.specs.declared.items.Feed.TheVariants.{From, Fixed}
-use Rattle.node_defs.specs.declared.items.Feeds.{Feeds}
-use Rattle.node_defs.specs.declared.items.Item.{Item}
+use Rattle.net_defs.specs.declared.{netlist.Netlist.Netlist, netlist.Signal.Signal, netlist.Block.Block, netlist.Driver.Driver, timing.Timing.Timing}
+use Rattle.net_defs.specs.Steps.{is_late}
+use Rattle.net_defs.specs.declared.netlist.Driver.TheVariants as driver
 use Rattle.node_defs.specs.declared.items.Item.TheVariants.{Input, BlockBit, Node, Latch}
-use Rattle.node_defs.specs.declared.items.ItemName.{ItemName}
-use Rattle.node_defs.specs.declared.items.NodeBlock.{NodeBlock}
-use Rattle.node_defs.specs.declared.items.NodeNet.{NodeNet}
 use Rattle.node_defs.specs.Items.{own, IsNamed, feed_at, IsItem, IsItemOf, StandFor, IsNodeBlock}
 use Rattle.node_defs.specs.Order.{class_of, key_of, Before, AreItems}
 use Rattle.node_defs.specs.Takes.{FeedTakes, FeedAwaits, Takes, Awaits}
 use Rattle.node_defs.specs.WellFormed.{IsComputed, NamesParts, is_input, column_count, IsMemoryOf, IsWellFormed}
-use Rattle.node_defs.proofs.lemmas.EarlierLemmas.{earlier, operand_there, table_there}
+use Rattle.node_defs.specs.declared.items.{Tag.TheVariants.This, Tag.TheVariants.Last, Feed.Feed, Feed.TheVariants.From, Feed.TheVariants.Fixed, Feeds.Feeds}
+use Rattle.node_defs.specs.declared.items.{Item.Item, ItemName.ItemName, NodeBlock.NodeBlock, NodeNet.NodeNet}
 use Rattle.node_defs.proofs.lemmas.NameLemmas.{name_at, name_there, name_same, NamedItem, named_item}
+use Rattle.node_defs.proofs.lemmas.EarlierLemmas.{earlier, operand_there, table_there}
 use Rattle.plan_defs.specs.Picks.{node_count}
 use Rattle.plan_defs.proofs.lemmas.CountLemmas.{few_partners, length-le-sum, count_later, place_low, place_before, helpers_few}
 

@@ -1,10 +1,7 @@
 -- The users of items as rows of bits.
 use Rattle.std.specs.Prelude.{◌↔◌, ℕ, ◌+◌, ◌*◌, ◌<◌, ◌≤◌, length}
-use Rattle.plan_defs.specs.declared.bit_rows.BitRows.{BitRows}
-use Rattle.plan_defs.specs.Bits.{HasBit, IsShaped}
+use Rattle.plan_defs.specs.{declared.bit_rows.BitRows.BitRows, Bits.HasBit, Bits.IsShaped, declared.plan.Homes.Homes, Readers.IsUser}
 use Rattle.node_defs.specs.declared.items.NodeNet.{NodeNet}
-use Rattle.plan_defs.specs.declared.plan.Homes.{Homes}
-use Rattle.plan_defs.specs.Readers.{IsUser}
 
 -- there is a place for the bit in the row
 pub record HasPlace (rows : BitRows) (row bit : ℕ) : Type 0 where

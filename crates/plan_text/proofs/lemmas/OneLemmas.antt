@@ -1,23 +1,15 @@
 -- There is one report.
 use Rattle.std.proofs.Common.{◌≡◌, ◌∙◌, inl, inr, ℕ, zero, suc, ◌+◌, ◌-◌, ◌<◌, ◌≤◌, List, [], ◌++◌, length, get_or, codes, decimal, refl, sym, ap, arith}
-use Rattle.std.specs.List.{flat_map, range_with_len}
-use Rattle.std.specs.Prelude.{nat_lt}
 use Rattle.std.proofs.lemmas.Bool.{cases_Bool, ltb-true, ltb-false}
+use Rattle.std.specs.{List.flat_map, List.range_with_len, Prelude.nat_lt}
 use Rattle.list_laws.proofs.Ranges.{sum_alike}
 use Rattle.net_defs.specs.declared.netlist.Netlist.{Netlist}
 use Rattle.node_defs.specs.declared.items.NodeNet.{NodeNet}
-use Rattle.plan_defs.specs.declared.plan.Homes.{Homes}
-use Rattle.plan_defs.specs.declared.plan.Plan.{Plan}
-use Rattle.plan_defs.specs.Homes.{home_of, host_of, ports_of}
-use Rattle.plan_defs.specs.Lists.{Counts}
-use Rattle.plan_defs.specs.Readers.{IsReader}
-use Rattle.plan_defs.specs.Slots.{slot_of}
-use Rattle.plan_defs.specs.Tables.{UsesTable}
+use Rattle.plan_defs.specs.{declared.plan.Homes.Homes, declared.plan.Plan.Plan, Homes.home_of, Homes.host_of, Homes.ports_of, Lists.Counts, Readers.IsReader}
+use Rattle.plan_defs.specs.{Slots.slot_of, Tables.UsesTable}
 use Rattle.switch_set.proofs.lemmas.SameLemmas.{one_lists}
-use Rattle.plan_text.specs.declared.figures.Figures.{Figures}
-use Rattle.plan_text.specs.Counted.{Receives, AreFigures, AreCrossings}
 use Rattle.plan_text.specs.Lines.{port_name, port_part, port_line, item_name, item_line, report_text}
-use Rattle.plan_text.specs.Reports.{IsReport}
+use Rattle.plan_text.specs.{declared.figures.Figures.Figures, Counted.Receives, Counted.AreFigures, Counted.AreCrossings, Reports.IsReport}
 
 one_count : (P : ℕ → Type 0) (m n : ℕ) → Counts P m → Counts P n → m ≡ n
 one_count P m n one other = one.are ∙ (ap length (one_lists P one.numbers other.numbers one.lists other.lists) ∙ sym other.are)

@@ -1,19 +1,10 @@
 -- Beside specs/Acts.antt, what only private functions and proofs cite.
 use Rattle.std.specs.Prelude.{◌≡◌, ℕ, ◌<◌, ◌≤◌, List, length, map, Some, slice_get}
 use Rattle.limits.specs.declared.TheConstants.{MAX_ADDRESS_BITS, MAX_WORD_BITS}
-use Rattle.logic_four.specs.declared.V4.{V4}
-use Rattle.logic_four.specs.Values.{value_at}
-use Rattle.logic_four.specs.Memory.{memory_act, MemoryAct, initial_words}
-use Rattle.image_defs.specs.declared.image.Source.{Source}
-use Rattle.image_defs.specs.declared.image.BlockWork.{BlockWork}
-use Rattle.image_defs.specs.declared.image.OutBit.{OutBit}
-use Rattle.image_defs.specs.declared.image.PortImage.{PortImage}
-use Rattle.image_defs.specs.Places.{Each, IsPort}
-use Rattle.image_defs.specs.WellFormed.{IsPast}
-use Rattle.image_defs.specs.Steps.{value_of_member, past_value}
-use Rattle.image_defs.specs.Ports.{PortView}
-use Rattle.port_bank.specs.Flat.{IsWithin}
-use Rattle.port_bank.specs.Reads.{past_in}
+use Rattle.logic_four.specs.{declared.V4.V4, Values.value_at, Memory.memory_act, Memory.MemoryAct, Memory.initial_words}
+use Rattle.image_defs.specs.declared.image.{Source.Source, BlockWork.BlockWork, OutBit.OutBit, PortImage.PortImage}
+use Rattle.image_defs.specs.{Places.Each, Places.IsPort, WellFormed.IsPast, Steps.value_of_member, Steps.past_value, Ports.PortView}
+use Rattle.port_bank.specs.{Flat.IsWithin, Reads.past_in}
 use Rattle.port_array.specs.Acts.{LaneMemory, FitsMemory}
 
 -- what a source of the port had in the last turn

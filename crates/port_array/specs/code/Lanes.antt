@@ -1,14 +1,10 @@
 -- Beside specs/Lanes.antt, what only private functions and proofs cite.
 use Rattle.std.specs.Prelude.{◌≡◌, ℕ, ◌<◌, ◌≤◌, List, length, Some, slice_get}
-use Rattle.logic_four.specs.declared.V4.{V4}
-use Rattle.logic_four.specs.Memory.{initial_words}
-use Rattle.image_defs.specs.declared.image.BlockWork.{BlockWork}
-use Rattle.image_defs.specs.Places.{Each}
-use Rattle.image_defs.specs.Ports.{View, lane_port}
+use Rattle.logic_four.specs.{declared.V4.V4, Memory.initial_words}
+use Rattle.image_defs.specs.{declared.image.BlockWork.BlockWork, Places.Each, Ports.View, Ports.lane_port}
 use Rattle.port_bank.specs.declared.word.Word as word
-use Rattle.port_array.specs.declared.memory.MemoryState.{MemoryState}
+use Rattle.port_array.specs.{declared.memory.MemoryState.MemoryState, code.Acts.ReadsPast, code.Acts.Acted, code.Acts.AreActed}
 use Rattle.port_array.specs.Lanes as lanes
-use Rattle.port_array.specs.code.Acts.{ReadsPast, Acted, AreActed}
 
 module _ {W P F S : Type 0} (w : word.Ghosts W P F S) where
   -- in every lane it is a memory before the first edge, with v in every bit

@@ -1,25 +1,17 @@
 -- What a port finds at hand in its turn, and what the items of its turn are.
 use Rattle.std.proofs.Common.{◌≡◌, ◌∙◌, inl, inr, ℕ, ◌+◌, ◌-◌, ◌*◌, ◌<◌, ◌≤◌, List, get_or, slice_get, Some, sym, ap, subst, refl, arith}
-use Rattle.std.proofs.lemmas.Bool.{cases_lt}
-use Rattle.std.proofs.lemmas.Option.{get_or_from_slice_get}
-use Rattle.logic_four.specs.declared.V4.{V4}
+use Rattle.std.proofs.lemmas.{Bool.cases_lt, Option.get_or_from_slice_get}
 use Rattle.logic_four.specs.declared.V4.TheVariants.{Zero, One, Undef, HighZ}
-use Rattle.logic_four.specs.Values.{code_of}
-use Rattle.image_defs.specs.declared.image.Source.{Source}
-use Rattle.image_defs.specs.declared.image.Source.TheVariants.{Own, Got, Const}
-use Rattle.image_defs.specs.declared.image.LinkIn.{LinkIn}
-use Rattle.image_defs.specs.declared.image.PortImage.{PortImage}
-use Rattle.image_defs.specs.declared.image.Image.{Image}
+use Rattle.logic_four.specs.{declared.V4.V4, Values.code_of}
 use Rattle.image_defs.specs.Places.{item_slots, in_slots, IsPort, IsItemIn}
 use Rattle.image_defs.specs.WellFormed.{IsWellFormed, IsThere, IsOperand, IsPast}
-use Rattle.image_defs.specs.Steps.{past_value, item_value, IsImageStep}
-use Rattle.image_defs.specs.Frames.{frame}
-use Rattle.image_defs.specs.Ports.{PortView, CanExecute, value_in}
-use Rattle.image_defs.proofs.lemmas.PlaceLemmas.{Rises, rises, at_map}
-use Rattle.image_defs.proofs.lemmas.ValueLemmas.{value_meets}
+use Rattle.image_defs.specs.declared.image.{Source.Source, Source.TheVariants.Own, Source.TheVariants.Got, Source.TheVariants.Const, LinkIn.LinkIn}
+use Rattle.image_defs.specs.{declared.image.PortImage.PortImage, declared.image.Image.Image, Steps.past_value, Steps.item_value, Steps.IsImageStep}
+use Rattle.image_defs.specs.{Frames.frame, Ports.PortView, Ports.CanExecute, Ports.value_in}
+use Rattle.image_defs.proofs.lemmas.{PlaceLemmas.Rises, PlaceLemmas.rises, PlaceLemmas.at_map, ValueLemmas.value_meets}
 use Rattle.port_bank.proofs.PlaceLemmas.{number_few}
-use Rattle.port_bank.specs.Flat.{place_count, operand_of, IsWithin}
 use Rattle.port_bank.specs.Reads.{IsAtHand, value_taken, now_in, past_in}
+use Rattle.port_bank.specs.Flat.{place_count, operand_of, IsWithin}
 
 -- what stands in the place of a port is that port
 pub port_image_found : (image : Image) (p : ℕ) (port port_image : PortImage) (ports : List PortImage) → IsPort image p port → ports ≡ image.ports → port_image ≡ get_or ports p port_image → port ≡ port_image

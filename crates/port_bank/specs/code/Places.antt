@@ -1,7 +1,6 @@
 -- Beside specs/Places.antt, what only private functions and proofs cite.
 use Rattle.std.specs.Prelude.{◌≡◌, ℕ, ◌+◌, ◌*◌, ◌/◌, ◌%◌, ◌<◌, ◌==◌, if◌then◌else◌, List, [], ◌∷◌, ◌++◌, length}
-use Rattle.logic_four.specs.declared.V4.{V4}
-use Rattle.logic_four.specs.Values.{value_at}
+use Rattle.logic_four.specs.{declared.V4.V4, Values.value_at}
 use Rattle.port_bank.specs.Places.{TwoTurns, Turns, count, lane_values, in_lane}
 use Rattle.port_bank.specs.code.Banks.{blank}
 

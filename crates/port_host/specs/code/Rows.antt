@@ -1,10 +1,8 @@
 -- Beside specs/Rows.antt, what only private functions and proofs cite.
 use Rattle.std.specs.Prelude.{◌≡◌, ℕ, ◌+◌, ◌<◌, List, length, Option, Some, None, slice_get}
-use Rattle.logic_four.specs.declared.V4.{V4}
-use Rattle.logic_four.specs.Values.{value_at}
+use Rattle.logic_four.specs.{declared.V4.V4, Values.value_at}
 use Rattle.net_defs.specs.declared.stimulus.StimRow.{StimRow}
-use Rattle.image_defs.specs.declared.image.Source.{Source}
-use Rattle.image_defs.specs.Ports.{PortView}
+use Rattle.image_defs.specs.{declared.image.Source.Source, Ports.PortView}
 use Rattle.port_bank.specs.Reads.{IsTaken}
 
 -- for how many cycles a row serves, and its values; there are none where there is no row

@@ -1,13 +1,9 @@
 -- Beside specs/Ops.antt, what only private functions and proofs cite.
 use Rattle.std.specs.Prelude.{◌≡◌, ℕ, ◌*◌, ◌<◌, List, length, Some, slice_get}
 use Rattle.func_table.specs.declared.table.Table.{Table}
-use Rattle.image_defs.specs.declared.image.Task.{Task}
-use Rattle.image_defs.specs.declared.image.Task.TheVariants.{Eval, Hold}
-use Rattle.image_defs.specs.declared.image.Source.{Source}
+use Rattle.image_defs.specs.declared.image.{Task.Task, Task.TheVariants.Eval, Task.TheVariants.Hold, Source.Source}
 use Rattle.port_bank.specs.Flat.{operand_of, IsWithin}
-use Rattle.port_logic.specs.declared.op.Op.{Op}
-use Rattle.port_logic.specs.declared.op.Op.TheVariants.{Pair, Look, Keep}
-use Rattle.port_logic.specs.Ops.{IsFormIn}
+use Rattle.port_logic.specs.{declared.op.Op.Op, declared.op.Op.TheVariants.Pair, declared.op.Op.TheVariants.Look, declared.op.Op.TheVariants.Keep, Ops.IsFormIn}
 
 -- what each of the first n tables is known as
 pub record AreFormsOf {F : Type 0} (is_form : Table → F → Type 0) (tables : List Table) (n : ℕ) (forms : List F) : Type 0 where

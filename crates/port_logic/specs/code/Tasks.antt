@@ -2,16 +2,10 @@
 use Rattle.std.specs.Prelude.{◌≡◌, ℕ, List}
 use Rattle.logic_four.specs.declared.V4.{V4}
 use Rattle.func_table.specs.declared.table.Table.{Table}
-use Rattle.image_defs.specs.declared.image.Task.{Task}
-use Rattle.image_defs.specs.declared.image.Task.TheVariants.{Eval, Hold}
-use Rattle.image_defs.specs.declared.image.PortImage.{PortImage}
-use Rattle.image_defs.specs.Places.{task_slot, IsPort, IsItemIn}
-use Rattle.image_defs.specs.WellFormed.{IsPast}
-use Rattle.image_defs.specs.Steps.{task_value}
-use Rattle.image_defs.specs.Ports.{PortView}
+use Rattle.image_defs.specs.declared.image.{Task.Task, Task.TheVariants.Eval, Task.TheVariants.Hold, PortImage.PortImage}
+use Rattle.image_defs.specs.{Places.task_slot, Places.IsPort, Places.IsItemIn, WellFormed.IsPast, Steps.task_value, Ports.PortView}
 use Rattle.port_bank.specs.Reads.{IsAtHand, now_in, past_in}
-use Rattle.port_logic.specs.declared.op.Op.{Op}
-use Rattle.port_logic.specs.Ops.{IsOp}
+use Rattle.port_logic.specs.{declared.op.Op.Op, Ops.IsOp}
 
 -- all that a task takes is at hand; what a register takes is of the last turn
 abbrev pub IsTaskAtHand : PortView → PortImage → Task → Type 0

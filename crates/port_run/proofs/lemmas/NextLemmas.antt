@@ -1,24 +1,14 @@
 -- Which events a step may have been, and what is short after it.
 use Rattle.std.proofs.Common.{arith, get_or-set_other, get_or-set_same, inl, inr, length, refl, subst, sym, ℕ, ◌%◌, ◌*◌, ◌+◌, ◌<◌, ◌≡◌, ◌≤◌}
 use Rattle.logic_four.specs.Values.{code_of}
-use Rattle.image_defs.specs.Places.{IsPort}
-use Rattle.image_defs.specs.WellFormed.{IsWellFormed}
-use Rattle.image_defs.specs.declared.image.Image.{Image}
-use Rattle.image_defs.specs.declared.image.PortImage.{PortImage}
-use Rattle.event_defs.proofs.lemmas.NextLemmas.{one_next}
-use Rattle.event_defs.proofs.lemmas.PaceLemmas.{reader_in, same_port}
-use Rattle.event_defs.proofs.lemmas.WordLemmas.{stamp_in}
-use Rattle.event_defs.specs.Next.{AsksNext, IsNext}
+use Rattle.image_defs.specs.{Places.IsPort, WellFormed.IsWellFormed, declared.image.Image.Image, declared.image.PortImage.PortImage}
+use Rattle.event_defs.proofs.lemmas.{NextLemmas.one_next, PaceLemmas.reader_in, PaceLemmas.same_port, WordLemmas.stamp_in}
 use Rattle.event_defs.specs.Places.{after_ask, after_put, after_take, after_tell}
-use Rattle.event_defs.specs.Row.{send_number, word_place}
-use Rattle.event_defs.specs.Steps.{stamp_of}
-use Rattle.event_defs.specs.declared.place.Action.{Action}
-use Rattle.event_defs.specs.declared.place.Action.TheVariants as action
-use Rattle.event_defs.specs.declared.place.Event.{Event}
 use Rattle.event_defs.specs.declared.place.Event.TheVariants.{Ask, Put, Take, Tell}
-use Rattle.event_defs.specs.declared.place.Place.{Place}
-use Rattle.slot_words.specs.Layout.{progress_word, send_word}
-use Rattle.slot_words.specs.plain.Passes.{IsFit, PassView, one_step}
+use Rattle.event_defs.specs.{Next.AsksNext, Next.IsNext, Row.send_number, Row.word_place, Steps.stamp_of, declared.place.Action.Action}
+use Rattle.event_defs.specs.declared.place.{Event.Event, Place.Place}
+use Rattle.event_defs.specs.declared.place.Action.TheVariants as action
+use Rattle.slot_words.specs.{Layout.progress_word, Layout.send_word, plain.Passes.IsFit, plain.Passes.PassView, plain.Passes.one_step}
 use Rattle.port_run.specs.Steps.{AskWaits, IsEvent, IsShort, IsWait, Makes, TakeWaits, value_there, word_now}
 
 -- the words of sends stand behind those of ports

@@ -1,17 +1,14 @@
 -- What a step keeps, and what its answer says.
 use Rattle.std.proofs.Common.{Bool, ap, arith, if◌then◌else◌, inl, inr, refl, subst, sym, ℕ, ◌+◌, ◌∙◌, ◌≡◌, ◌↔◌}
-use Rattle.event_defs.specs.declared.place.Event.{Event}
 use Rattle.event_defs.specs.declared.place.Event.TheVariants.{Ask, Put, Take, Tell}
-use Rattle.event_defs.specs.declared.place.Place.{Place}
+use Rattle.event_defs.specs.declared.place.{Event.Event, Place.Place}
 use Rattle.crew_run.specs.Steps as step
-use Rattle.crew_run.specs.Steps.{steps_of}
-use Rattle.crew_run.specs.declared.stepper.Step.{Step}
+use Rattle.crew_run.specs.{Steps.steps_of, declared.stepper.Step.Step}
 use Rattle.crew_run.specs.declared.stepper.Step.TheVariants.{Done, Moved, NotYet}
 use Rattle.slot_words.specs.plain.Passes.{CrossbarView, IsFit, IsOf, PassView, one_step}
 use Rattle.port_run.proofs.lemmas.NextLemmas.{event_not_short, event_not_wait, wait_short}
-use Rattle.port_run.specs.Pairs.{HasMade, RunView, with_pass}
-use Rattle.port_run.specs.Same.{IsSame, Takes}
 use Rattle.port_run.specs.Steps.{IsEvent, IsShort, IsStepOf, IsWait, ends_turn}
+use Rattle.port_run.specs.{Pairs.HasMade, Pairs.RunView, Pairs.with_pass, Same.IsSame, Same.Takes}
 
 -- what no step changes, and how many atomic steps it was
 pub record IsNext (old new : PassView) (made : ℕ) : Type 0 where

@@ -1,13 +1,9 @@
 -- Beside specs/Steps.antt, what only private functions and proofs cite.
 use Rattle.std.specs.Prelude.{ℕ, ◌+◌, ◌<◌, ◌≤◌}
-use Rattle.image_defs.specs.Places.{IsPort}
-use Rattle.image_defs.specs.declared.image.PortImage.{PortImage}
-use Rattle.event_defs.specs.Next.{IsNext}
-use Rattle.event_defs.specs.declared.place.Action.{Action}
-use Rattle.crew_run.specs.declared.stepper.Step.{Step}
-use Rattle.crew_run.specs.declared.stepper.Step.TheVariants.{Done, Moved, NotYet}
-use Rattle.slot_words.specs.plain.Passes.{IsFit, PassView}
-use Rattle.slot_words.specs.plain.Words.{turns_of}
+use Rattle.image_defs.specs.{Places.IsPort, declared.image.PortImage.PortImage}
+use Rattle.event_defs.specs.{Next.IsNext, declared.place.Action.Action}
+use Rattle.crew_run.specs.declared.stepper.Step.{Step, TheVariants.Done, TheVariants.Moved, TheVariants.NotYet}
+use Rattle.slot_words.specs.plain.{Passes.IsFit, Passes.PassView, Words.turns_of}
 use Rattle.port_run.specs.Steps.{value_there}
 
 -- this is the next event of its place in a block that has this last turn

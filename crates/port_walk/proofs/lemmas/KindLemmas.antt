@@ -1,10 +1,7 @@
 -- The kinds of port before their first turn.
 use Rattle.std.proofs.Common.{◌≡◌, ◌∙◌, inl, inr, ℕ, ◌+◌, ◌<◌, List, length, None, Some, get_or, ap, sym, refl, arith}
-use Rattle.std.proofs.lemmas.Bool.Decides.{eqb_tells}
-use Rattle.std.proofs.lemmas.Option.{slice_get_read}
-use Rattle.image_defs.specs.declared.image.Image.{Image}
-use Rattle.image_defs.specs.declared.image.PortImage.{PortImage}
-use Rattle.image_defs.specs.Places.{IsPort, host_of}
+use Rattle.std.proofs.lemmas.{Bool.Decides.eqb_tells, Option.slice_get_read}
+use Rattle.image_defs.specs.{declared.image.Image.Image, declared.image.PortImage.PortImage, Places.IsPort, Places.host_of}
 use Rattle.image_defs.specs.WellFormed.{IsWellFormed, IsHost}
 use Rattle.port_walk.specs.Kinds.{rows_of}
 

@@ -1,9 +1,7 @@
 -- Beside specs/Walks.antt, what only private functions and proofs cite.
 use Rattle.std.specs.Prelude.{◌≡◌, ℕ, ◌-◌, ◌/◌, ◌<◌, ◌≤◌, Bool, true, false, if◌then◌else◌, List, length, Option, None, Some, slice_get}
 use Rattle.net_defs.specs.declared.stimulus.Stimulus.{Stimulus}
-use Rattle.image_defs.specs.declared.image.LinkIn.{LinkIn}
-use Rattle.image_defs.specs.declared.image.PortImage.{PortImage}
-use Rattle.image_defs.specs.Places.{IsPort, item_slots}
+use Rattle.image_defs.specs.{declared.image.LinkIn.LinkIn, declared.image.PortImage.PortImage, Places.IsPort, Places.item_slots}
 use Rattle.image_defs.specs.Ports.{View, PortView, last_turn}
 use Rattle.port_walk.specs.Walks.{Walked}
 

@@ -2,8 +2,8 @@
 -- many turns each port has finished.
 use Rattle.std.specs.Prelude.{◌≡◌, ℕ, ◌<◌, ◌≤◌, List, slice_index_or}
 use Rattle.image_defs.specs.Places.{Stands}
-use Rattle.port_walk.specs.declared.upcoming.Upcoming.{Upcoming}
 use Rattle.port_walk.specs.declared.upcoming.Upcoming.TheVariants.{Ask, Put, Take, Tell, Done}
+use Rattle.port_walk.specs.declared.upcoming.Upcoming.{Upcoming}
 
 -- each reader is known to have finished so many turns
 pub record NoneLags (readers known : List ℕ) (turns : ℕ) : Type 0 where

@@ -2,10 +2,8 @@
 use Rattle.std.specs.Prelude.{◌≡◌, ℕ, ◌+◌, ◌<◌, ◌≤◌, List, length, Some, slice_get}
 use Rattle.std.specs.List.Sorted.{IsStrictlyIncreasing}
 use Rattle.limits.specs.declared.TheConstants.{MAX_PORTS}
-use Rattle.image_defs.specs.declared.image.LinkOut.{LinkOut}
-use Rattle.image_defs.specs.Places.{Each}
-use Rattle.port_walk.specs.declared.stops.Stop.{Stop}
-use Rattle.port_walk.specs.Stops.{counts, slot_at, AreFirstStops}
+use Rattle.image_defs.specs.{declared.image.LinkOut.LinkOut, Places.Each}
+use Rattle.port_walk.specs.{declared.stops.Stop.Stop, Stops.counts, Stops.slot_at, Stops.AreFirstStops}
 
 abbrev pub HasFewReaders : LinkOut → Type 0
 HasFewReaders link = length link.readers ≤ MAX_PORTS

@@ -1,11 +1,9 @@
 -- Where there is an order, no gates wait in a circle.
 use Rattle.std.proofs.Common.{◌≡◌, ◌≢◌, ℕ, zero, suc, ◌-◌, ◌<◌, ◌≤◌, List, [], length, get_or, refl, ap, subst, arith, Option, Some, None}
 use Rattle.std.specs.List.{Contains, slice_get}
-use Rattle.net_defs.specs.declared.netlist.Netlist.{Netlist}
-use Rattle.net_defs.specs.declared.netlist.Signal.{Signal}
-use Rattle.net_defs.specs.declared.timing.Timing.{Timing}
-use Rattle.net_defs.specs.declared.timing.Mode.TheVariants as mode
+use Rattle.net_defs.specs.declared.{netlist.Netlist.Netlist, netlist.Signal.Signal, timing.Timing.Timing}
 use Rattle.net_defs.specs.Loops.{waits_for, IsOrder, IsCircle}
+use Rattle.net_defs.specs.declared.timing.Mode.TheVariants as mode
 use Rattle.list_laws.proofs.Places.{place_of, place_below}
 
 module _ (net : Netlist) (timing : Timing) (order members : List ℕ) (is_order : IsOrder net timing order) (circle : IsCircle net timing members) where

@@ -1,20 +1,12 @@
 -- The rank numbers along an order: how far they have come after so many gates.
 use Rattle.std.proofs.Common.{◌≡◌, ◌≢◌, ◌∙◌, ℕ, zero, suc, ◌+◌, ◌<◌, ◌≤◌, inl, inr, max, Bool, true, false, if◌then◌else◌, List, [], ◌∷◌, length, get_or, set, refl, sym, ap, arith, Option, Some, None}
+use Rattle.std.proofs.lemmas.{Bool.cases_lt, Bool.Decides.eqb_tells, Option.slice_get_past, List.length-set, List.get_or-set_same, List.get_or-set_other}
 use Rattle.std.specs.List.{Contains, fold, slice_get}
-use Rattle.std.proofs.lemmas.Bool.{cases_lt}
-use Rattle.std.proofs.lemmas.Bool.Decides.{eqb_tells}
-use Rattle.std.proofs.lemmas.Option.{slice_get_past}
-use Rattle.std.proofs.lemmas.List.{length-set, get_or-set_same, get_or-set_other}
-use Rattle.net_defs.specs.declared.netlist.Netlist.{Netlist}
-use Rattle.net_defs.specs.declared.netlist.Signal.{Signal}
-use Rattle.net_defs.specs.declared.netlist.Driver.{Driver}
 use Rattle.net_defs.specs.declared.netlist.Driver.TheVariants.{Input, Gate, Dff, BlockBit}
-use Rattle.net_defs.specs.declared.timing.Timing.{Timing}
-use Rattle.net_defs.specs.Steps.{is_late}
 use Rattle.net_defs.specs.Loops.{is_gate, is_gate_driver, gate_operands, IsGate, waits_for, IsOrder, rank_past, rank_above, IsRanking}
-use Rattle.list_laws.proofs.Differ.{differ_at}
-use Rattle.list_laws.proofs.Places.{place_of, place_below}
-use Rattle.list_laws.proofs.Ranges.{last_or}
+use Rattle.net_defs.specs.declared.{netlist.Netlist.Netlist, netlist.Signal.Signal, netlist.Driver.Driver, timing.Timing.Timing}
+use Rattle.net_defs.specs.Steps.{is_late}
+use Rattle.list_laws.proofs.{Differ.differ_at, Places.place_of, Places.place_below, Ranges.last_or}
 use Rattle.rank_find.proofs.WalkLemmas.{is_gate_or}
 
 -- a gate is a signal

@@ -1,5 +1,4 @@
-use Rattle.rank_find.proofs.Existence.{order_or_loop}
-use Rattle.rank_find.proofs.lemmas.Exclusion.{acyclic}
+use Rattle.rank_find.proofs.{Existence.order_or_loop, lemmas.Exclusion.acyclic}
 use Rattle.rank_find.proofs.order_or_loop.Goals as goal
 
 pub returns-clause-one : goal.returns-clause-one

@@ -1,10 +1,7 @@
 -- What a walk over the whole netlist finds.
 use Rattle.std.specs.Prelude.{◌≤◌, length}
-use Rattle.net_defs.specs.declared.netlist.Netlist.{Netlist}
-use Rattle.net_defs.specs.declared.timing.Timing.{Timing}
-use Rattle.net_defs.specs.Loops.{IsOrder, IsLoop}
-use Rattle.rank_find.specs.declared.Found.{Found}
-use Rattle.rank_find.specs.declared.Found.TheVariants.{Order, Loop}
+use Rattle.net_defs.specs.{declared.netlist.Netlist.Netlist, declared.timing.Timing.Timing, Loops.IsOrder, Loops.IsLoop}
+use Rattle.rank_find.specs.declared.Found.{Found, TheVariants.Order, TheVariants.Loop}
 
 -- an order of no more gates than there are signals, or a loop
 abbrev pub IsFound : Netlist → Timing → Found → Type 0

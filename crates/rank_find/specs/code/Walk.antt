@@ -1,12 +1,8 @@
 -- A walk down the operands: what its lists mean between two steps.
 use Rattle.std.specs.Prelude.{◌≡◌, ◌≢◌, ℕ, ◌+◌, ◌-◌, ◌*◌, ◌<◌, ◌≤◌, false, if◌then◌else◌, List, [], ◌∷◌, ◌++◌, length, take, slice_index_or, slice_index, replicate, map, sum_by, All, AllPairs, Contains}
-use Rattle.net_defs.specs.declared.netlist.Netlist.{Netlist}
-use Rattle.net_defs.specs.declared.netlist.Signal.{Signal}
-use Rattle.net_defs.specs.declared.timing.Timing.{Timing}
 use Rattle.net_defs.specs.Loops.{is_gate_driver, is_gate, IsGate, waits_for}
-use Rattle.rank_find.specs.declared.walk.Mark.{Mark}
-use Rattle.rank_find.specs.declared.walk.Mark.TheVariants.{Fresh, Open, Done}
-use Rattle.rank_find.specs.declared.walk.Walk.{Walk}
+use Rattle.net_defs.specs.declared.{netlist.Netlist.Netlist, netlist.Signal.Signal, timing.Timing.Timing}
+use Rattle.rank_find.specs.declared.walk.{Mark.Mark, Mark.TheVariants.Fresh, Mark.TheVariants.Open, Mark.TheVariants.Done, Walk.Walk}
 
 -- the mark of a signal; what is no signal is done
 abbrev pub mark_at : List Mark → ℕ → Mark

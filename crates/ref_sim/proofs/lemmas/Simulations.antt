@@ -1,12 +1,8 @@
 -- Along an order there is exactly one simulation.
 use Rattle.std.proofs.Common.{List, ℕ}
-use Rattle.net_defs.specs.declared.netlist.Netlist.{Netlist}
-use Rattle.net_defs.specs.declared.timing.Timing.{Timing}
-use Rattle.net_defs.specs.declared.stimulus.Stimulus.{Stimulus}
-use Rattle.net_defs.specs.Loops.{IsOrder}
+use Rattle.net_defs.specs.{declared.netlist.Netlist.Netlist, declared.timing.Timing.Timing, declared.stimulus.Stimulus.Stimulus, Loops.IsOrder}
 use Rattle.net_defs.specs.Reference.{HasOneSimulation}
-use Rattle.ref_sim.proofs.Existence.{simulation, is_simulation}
-use Rattle.ref_sim.proofs.Uniqueness.{simulation_unique}
+use Rattle.ref_sim.proofs.{Existence.simulation, Existence.is_simulation, Uniqueness.simulation_unique}
 
 pub one_along : (net : Netlist) (timing : Timing) (stimulus : Stimulus) (order : List ℕ) → IsOrder net timing order → HasOneSimulation net timing stimulus
 one_along net timing stimulus order is_order = record {

@@ -1,11 +1,7 @@
 use Rattle.std.proofs.Common.{inl, inr, List, ℕ}
-use Rattle.net_defs.specs.declared.netlist.Netlist.{Netlist}
-use Rattle.net_defs.specs.declared.timing.Timing.{Timing}
-use Rattle.net_defs.specs.declared.stimulus.Stimulus.{Stimulus}
-use Rattle.net_defs.specs.Loops.{IsCircle}
+use Rattle.net_defs.specs.{declared.netlist.Netlist.Netlist, declared.timing.Timing.Timing, declared.stimulus.Stimulus.Stimulus, Loops.IsCircle}
 use Rattle.net_defs.specs.Reference.{HasOneSimulation}
-use Rattle.rank_find.proofs.Existence.{order_or_loop}
-use Rattle.rank_find.proofs.lemmas.Exclusion.{circle_not_in_unit_delay}
+use Rattle.rank_find.proofs.{Existence.order_or_loop, lemmas.Exclusion.circle_not_in_unit_delay}
 use Rattle.ref_sim.proofs.lemmas.Simulations.{one_along}
 use Rattle.ref_sim.proofs.one_simulation.Goals as goal
 

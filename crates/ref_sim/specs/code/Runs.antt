@@ -2,14 +2,9 @@
 use Rattle.std.specs.Prelude.{◌≡◌, ℕ, ◌+◌, ◌*◌, ◌<◌, Bool, List, [], ◌∷◌, ◌++◌, length, map, take, replicate, Option, Some, slice_get, All}
 use Rattle.std.specs.List.{flat_map}
 use Rattle.logic_four.specs.declared.V4.{V4}
-use Rattle.net_defs.specs.declared.netlist.Netlist.{Netlist}
-use Rattle.net_defs.specs.declared.timing.Timing.{Timing}
-use Rattle.net_defs.specs.declared.stimulus.Stimulus.{Stimulus}
-use Rattle.net_defs.specs.declared.trace.CellRow.{CellRow}
-use Rattle.net_defs.specs.Steps.{State, values_of}
-use Rattle.net_defs.specs.Reference.{IsSimulation}
-use Rattle.net_ops.specs.declared.state.LaneState.{LaneState}
-use Rattle.net_ops.specs.States.{lane_state}
+use Rattle.net_defs.specs.declared.{netlist.Netlist.Netlist, timing.Timing.Timing, stimulus.Stimulus.Stimulus, trace.CellRow.CellRow}
+use Rattle.net_defs.specs.{Steps.State, Steps.values_of, Reference.IsSimulation}
+use Rattle.net_ops.specs.{declared.state.LaneState.LaneState, States.lane_state}
 use Rattle.ref_sim.specs.Observing.{RunsAs, HasWatchedLanes}
 
 -- a value is that of its one lane

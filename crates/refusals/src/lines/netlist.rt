@@ -1,7 +1,6 @@
 //! The lines of netlists that are refused, and of loops.
 
-ghost use Rattle.std.specs.Prelude.{◌≡◌, ◌++◌, codes};
-ghost use Rattle.std.specs.List.{flat_map};
+ghost use Rattle.std.specs.{Prelude.◌≡◌, Prelude.◌++◌, Prelude.codes, List.flat_map};
 ghost use Rattle.edge_io.specs.Writing.{Writes};
 ghost use Rattle.net_defs.specs.Canonical.{name_of};
 ghost use Rattle.refusals.specs.Lines.{byte_line, loop_line, many_words, netlist_line, text_line, twice_line, undriven_line};

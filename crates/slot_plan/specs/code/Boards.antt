@@ -1,9 +1,7 @@
 -- Which slots of which ports are taken.
 use Rattle.std.specs.Prelude.{◌≡◌, ◌⊎◌, ℕ, ◌+◌, ◌*◌, ◌^◌, ◌<◌, ◌≤◌, List, length, Contains, Option, Some, None}
 use Rattle.limits.specs.declared.TheConstants.{MAX_PORTS}
-use Rattle.plan_defs.specs.declared.bit_rows.BitRows.{BitRows}
-use Rattle.plan_defs.specs.Bits.{HasBit}
-use Rattle.plan_defs.specs.Lists.{IsLeastFree}
+use Rattle.plan_defs.specs.{declared.bit_rows.BitRows.BitRows, Bits.HasBit, Lists.IsLeastFree}
 use Rattle.slot_plan.specs.declared.board.Board.{Board}
 
 -- there are two rows for each port

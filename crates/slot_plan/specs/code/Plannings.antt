@@ -1,13 +1,9 @@
 -- What is known once so many items have their slots.
 use Rattle.std.specs.Prelude.{◌≡◌, ◌⊎◌, ◌↔◌, ℕ, ◌+◌, ◌*◌, ◌<◌, ◌≤◌, List, length}
-use Rattle.plan_defs.specs.Bits.{HasBit}
-use Rattle.node_defs.specs.declared.items.NodeNet.{NodeNet}
-use Rattle.plan_defs.specs.declared.plan.Homes.{Homes}
-use Rattle.plan_defs.specs.Homes.{home_of, ports_of}
-use Rattle.plan_defs.specs.Readers.{IsReader}
+use Rattle.plan_defs.specs.{Bits.HasBit, declared.plan.Homes.Homes, Homes.home_of, Homes.ports_of, Readers.IsReader}
 use Rattle.plan_defs.specs.Slots.{slot_of, AreFirstFit, needed_of}
-use Rattle.slot_plan.specs.declared.planning.Planning.{Planning}
-use Rattle.slot_plan.specs.code.Boards.{IsBoard}
+use Rattle.node_defs.specs.declared.items.NodeNet.{NodeNet}
+use Rattle.slot_plan.specs.{declared.planning.Planning.Planning, code.Boards.IsBoard}
 
 -- item i is sent in the row or received in it
 abbrev pub IsRowOf : NodeNet → Homes → ℕ → ℕ → Type 0

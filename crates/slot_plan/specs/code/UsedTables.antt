@@ -1,14 +1,10 @@
 -- Beside specs/UsedTables.antt, what only private functions and proofs cite.
 use Rattle.std.specs.Prelude.{◌≡◌, ◌↔◌, ℕ, ◌+◌, ◌*◌, ◌<◌, ◌≤◌, List, length}
-use Rattle.plan_defs.specs.declared.bit_rows.BitRows.{BitRows}
-use Rattle.plan_defs.specs.Bits.{HasBit}
-use Rattle.machine_text.specs.declared.machine.Machine.{Machine}
-use Rattle.node_defs.specs.declared.items.Item.{Item}
-use Rattle.node_defs.specs.declared.items.Item.TheVariants.{Input, BlockBit, Node, Latch}
-use Rattle.node_defs.specs.declared.items.NodeNet.{NodeNet}
-use Rattle.plan_defs.specs.declared.plan.Homes.{Homes}
-use Rattle.plan_defs.specs.code.Lists.{ListsBelow}
 use Rattle.plan_defs.specs.Tables.{UsesTable, UsesTables, FitsTables, table_limit}
+use Rattle.plan_defs.specs.{declared.bit_rows.BitRows.BitRows, Bits.HasBit, declared.plan.Homes.Homes, code.Lists.ListsBelow}
+use Rattle.machine_text.specs.declared.machine.Machine.{Machine}
+use Rattle.node_defs.specs.declared.items.Item.TheVariants.{Input, BlockBit, Node, Latch}
+use Rattle.node_defs.specs.declared.items.{Item.Item, NodeNet.NodeNet}
 use Rattle.slot_plan.specs.declared.tables.Crowded.{Crowded}
 
 -- the item is a node with this table

@@ -1,18 +1,15 @@
 -- What the rule implies.
 use Rattle.std.proofs.Common.{List, Some, ap, eq-eqb, if◌then◌else◌, inl, inr, length, ne_eqb, sym, ℕ, ◌+◌, ◌<◌, ◌∙◌, ◌≡◌, ◌≢◌}
-use Rattle.std.specs.Prelude.{◌↔◌}
 use Rattle.std.proofs.lemmas.Bool.{cases_eq}
+use Rattle.std.specs.Prelude.{◌↔◌}
 use mathlib.Core.Option.{some}
 use lib.ListN.{get_elem?}
 use Rattle.image_defs.specs.declared.image.Image.{Image}
 use Rattle.event_defs.specs.declared.place.Place.{Place}
 use Rattle.atomic_table.specs.Table.{State}
-use Rattle.slot_words.specs.declared.feed.Feed.{Ghosts}
-use Rattle.slot_words.specs.declared.rule.Key.{Key}
-use Rattle.slot_words.specs.declared.rule.TheConstants.{UNCLAIMED}
-use Rattle.slot_words.specs.declared.rule.View.{View}
-use Rattle.slot_words.specs.Layout.{progress_in, turns_told}
 use Rattle.slot_words.specs.Rule.{AreDistinct, AreInTurn, AreOwned, Kept}
+use Rattle.slot_words.specs.declared.{feed.Feed.Ghosts, rule.Key.Key, rule.TheConstants.UNCLAIMED, rule.View.View}
+use Rattle.slot_words.specs.Layout.{progress_in, turns_told}
 
 pub told_none : (n : ℕ) → n ≡ UNCLAIMED → turns_told n ≡ 0
 told_none n e = ap (λ b. if b then 0 else n) (eq-eqb n UNCLAIMED e)

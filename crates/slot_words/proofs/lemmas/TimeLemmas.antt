@@ -1,25 +1,16 @@
 -- The turns of places and words: each kind of step keeps them in pace. No value stands here.
 use Rattle.std.proofs.Common.{List, Some, ap, arith, false, get_or-set_other, get_or-set_same, inl, inr, length, refl, set, slice_get, subst, sym, ℕ, ◌*◌, ◌+◌, ◌<◌, ◌∙◌, ◌≡◌, ◌≢◌, ◌≤◌}
-use Rattle.std.proofs.lemmas.Bool.{cases_eq}
-use Rattle.std.proofs.lemmas.List.{drop-set-add, drop-set-lt, length-drop}
-use Rattle.std.proofs.lemmas.Option.{slice_get_within}
-use Rattle.image_defs.specs.Places.{IsPort, Stands}
-use Rattle.image_defs.specs.WellFormed.{IsWellFormed}
-use Rattle.image_defs.specs.declared.image.Image.{Image}
-use Rattle.image_defs.specs.declared.image.LinkIn.{LinkIn}
-use Rattle.image_defs.specs.declared.image.LinkOut.{LinkOut}
-use Rattle.image_defs.specs.declared.image.PortImage.{PortImage}
+use Rattle.std.proofs.lemmas.{Bool.cases_eq, List.drop-set-add, List.drop-set-lt, List.length-drop, Option.slice_get_within}
+use Rattle.image_defs.specs.{Places.IsPort, Places.Stands, WellFormed.IsWellFormed, declared.image.Image.Image, declared.image.LinkIn.LinkIn}
+use Rattle.image_defs.specs.declared.image.{LinkOut.LinkOut, PortImage.PortImage}
 use Rattle.event_defs.proofs.lemmas.PaceLemmas.{CanStand, asks, puts, stands, takes, tells}
 use Rattle.event_defs.proofs.lemmas.RowLemmas.{number_within, place_within, send_within, word_set}
 use Rattle.event_defs.proofs.lemmas.SlotLemmas.{each_updated, updated_here, updated_there}
-use Rattle.event_defs.specs.Next.{EndsNext}
 use Rattle.event_defs.specs.Places.{IsSend, after_ask, after_put, after_take, after_tell, is_in, known_of, latest, start}
 use Rattle.event_defs.specs.Row.{send_count, send_number, word_in, word_place}
-use Rattle.event_defs.specs.Steps.{updated, written}
-use Rattle.event_defs.specs.declared.place.Place.{Place}
-use Rattle.slot_words.specs.declared.rule.TheConstants.{UNCLAIMED}
+use Rattle.event_defs.specs.{Next.EndsNext, Steps.updated, Steps.written, declared.place.Place.Place}
 use Rattle.slot_words.specs.Layout.{progress_in, send_word, sent_in, word_count}
-use Rattle.slot_words.specs.Rule.{AreInTurn}
+use Rattle.slot_words.specs.{declared.rule.TheConstants.UNCLAIMED, Rule.AreInTurn}
 
 module _ (image : Image) (banks : ℕ) (words : List ℕ) where
   -- a progress word written leaves the words of sends, and a word of a send the progress words

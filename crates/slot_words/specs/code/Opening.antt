@@ -2,10 +2,7 @@
 use Rattle.std.specs.Prelude.{◌≡◌, ℕ, Some}
 use Rattle.image_defs.specs.declared.image.Image.{Image}
 use Rattle.atomic_table.specs.declared.shared.Seat.{Seat}
-use Rattle.slot_words.specs.declared.feed.Feed.{Ghosts}
-use Rattle.slot_words.specs.declared.rule.View.{View}
-use Rattle.slot_words.specs.Passes.{IsKeyOf, WordsView}
-use Rattle.slot_words.specs.Rule.{IsRunnable, unseated}
+use Rattle.slot_words.specs.{declared.feed.Feed.Ghosts, declared.rule.View.View, Passes.IsKeyOf, Passes.WordsView, Rule.IsRunnable, Rule.unseated}
 
 -- a seat of the crossbar that is no port's
 pub record IsTemplate {F D : Type 0} (g : Ghosts F D) (bar : WordsView D) (seat : Seat (Unit {0}) (View D)) : Type 0 where

@@ -2,8 +2,7 @@
 use Rattle.std.specs.Prelude.{◌≡◌, ℕ, ◌+◌, ◌/◌, ◌%◌, ◌^◌, None, Option, Some}
 use Rattle.limits.specs.declared.TheConstants.{LANES}
 use Rattle.lane_planes.specs.declared.planes.Planes.{Planes}
-use Rattle.slot_words.specs.declared.pack_words.words.PackTaken.{PackTaken}
-use Rattle.slot_words.specs.declared.pack_words.words.PackTaken.TheVariants.{NotYet, Value}
+use Rattle.slot_words.specs.declared.pack_words.words.PackTaken.{PackTaken, TheVariants.NotYet, TheVariants.Value}
 
 -- the planes of a word
 abbrev pub IsPlanesOf : ℕ → Planes → Type 0

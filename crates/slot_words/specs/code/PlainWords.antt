@@ -1,8 +1,7 @@
 -- Beside specs/plain, what only private functions and proofs cite.
 use Rattle.std.specs.Prelude.{◌≡◌, ℕ, ◌%◌, None, Option, Some}
 use Rattle.logic_four.specs.Values.{value_of}
-use Rattle.slot_words.specs.declared.crossbar.Taken.{Taken}
-use Rattle.slot_words.specs.declared.crossbar.Taken.TheVariants.{NotYet, Value}
+use Rattle.slot_words.specs.declared.crossbar.Taken.{Taken, TheVariants.NotYet, TheVariants.Value}
 
 -- what a number that was taken says
 abbrev pub IsTakenOf : Option ℕ → Taken → Type 0

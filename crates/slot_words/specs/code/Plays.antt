@@ -5,13 +5,8 @@ use Rattle.image_defs.specs.declared.image.LinkOut.{LinkOut}
 use Rattle.event_defs.specs.Places.{IsSend, after_ask, after_put, after_take, after_tell, known_of, start}
 use Rattle.event_defs.specs.declared.place.Place.{Place}
 use Rattle.atomic_table.specs.Table.{Allows, Me, Step, step}
-use Rattle.slot_words.specs.declared.feed.Feed.{Ghosts}
-use Rattle.slot_words.specs.declared.rule.Key.{Key}
-use Rattle.slot_words.specs.declared.rule.TheConstants.{UNCLAIMED}
-use Rattle.slot_words.specs.declared.rule.View.{View}
-use Rattle.slot_words.specs.Layout.{send_word, turns_told}
-use Rattle.slot_words.specs.Passes.{WasSentBefore}
-use Rattle.slot_words.specs.Rule.{Kept}
+use Rattle.slot_words.specs.declared.{feed.Feed.Ghosts, rule.Key.Key, rule.TheConstants.UNCLAIMED, rule.View.View}
+use Rattle.slot_words.specs.{Layout.send_word, Layout.turns_told, Passes.WasSentBefore, Rule.Kept}
 
 -- the view after one more step, which saw this number in this word, and with which all passes had made so many
 abbrev pub after_step : {D : Type 0} → View D → ℕ → Place → ℕ → ℕ → View D

@@ -5,8 +5,8 @@ use Rattle.limits.specs.declared.TheConstants.{LANES}
 use Rattle.lane_planes.specs.declared.planes.Planes.{Planes}
 use Rattle.stim_text.proofs.lemmas.LaneLemmas.{longest_few}
 use Rattle.stim_text.specs.Lanes.{longest}
-use Rattle.slot_words.specs.Feeds.{AreFew, TellsTurns}
 use Rattle.slot_words.specs.packed.Words.{Fits, HasPlanes, is_of, packed, stamp_in, packed_stamp_of, turns_of}
+use Rattle.slot_words.specs.Feeds.{AreFew, TellsTurns}
 
 pub packed_stamp : (turn : ℕ) (planes : Planes) → packed_stamp_of (packed turn planes) ≡ stamp_in turn
 packed_stamp turn planes = let e : packed_stamp_of (packed turn planes) ≡ (turn % 16 + 16 * planes.low + 2 ^ (LANES + 4) * planes.high) % 16 = refl in omega arith

@@ -1,21 +1,15 @@
 -- A packed crossbar and a packed pass as contracts see them, and what its calls do with planes.
 use Rattle.std.specs.Prelude.{◌≡◌, ◌≢◌, ℕ, ◌+◌, ◌<◌, ◌≤◌, false, Some, slice_get}
 use Rattle.limits.specs.declared.TheConstants.{LANES}
-use Rattle.lane_planes.specs.Lanes.{lane_of}
-use Rattle.lane_planes.specs.declared.planes.Planes.{Planes}
+use Rattle.lane_planes.specs.{Lanes.lane_of, declared.planes.Planes.Planes}
 use Rattle.stim_text.specs.declared.lanes.Lanes.{Lanes}
-use Rattle.image_defs.specs.Frames.{image_value}
-use Rattle.image_defs.specs.Places.{IsPort, Stands}
-use Rattle.image_defs.specs.declared.image.Image.{Image}
-use Rattle.image_defs.specs.declared.image.LinkIn.{LinkIn}
-use Rattle.image_defs.specs.declared.image.LinkOut.{LinkOut}
-use Rattle.image_defs.specs.declared.image.PortImage.{PortImage}
+use Rattle.image_defs.specs.{Frames.image_value, Places.IsPort, Places.Stands, declared.image.Image.Image, declared.image.LinkIn.LinkIn}
+use Rattle.image_defs.specs.declared.image.{LinkOut.LinkOut, PortImage.PortImage}
 use Rattle.event_defs.specs.Places.{IsSend, after_put, after_take, is_in, known_of}
-use Rattle.slot_words.specs.declared.pack_words.words.PackTaken.{PackTaken}
-use Rattle.slot_words.specs.declared.pack_words.words.PackTaken.TheVariants.{NotYet, Value}
+use Rattle.slot_words.specs.packed.Words.{packed, packs, stamp_in, packed_stamp_of, stimulus_of, turns_of}
+use Rattle.slot_words.specs.declared.pack_words.words.PackTaken.{PackTaken, TheVariants.NotYet, TheVariants.Value}
 use Rattle.slot_words.specs.Layout.{send_word}
 use Rattle.slot_words.specs.Passes as words
-use Rattle.slot_words.specs.packed.Words.{packed, packs, stamp_in, packed_stamp_of, stimulus_of, turns_of}
 pub use Rattle.slot_words.specs.Passes.{AreFirstPasses, CanTake, CanTell, IsFirstPass, IsKeyOf, IsMade, IsOf, one_step}
 
 abbrev pub BarView : Type 0

@@ -4,20 +4,15 @@ use Rattle.limits.specs.declared.TheConstants.{LANES}
 use mathlib.Core.Option.{some}
 use lib.ListN.{get_elem?}
 use Rattle.logic_four.specs.Values.{code_of}
-use Rattle.lane_planes.specs.Lanes.{lane_of}
+use Rattle.lane_planes.specs.{Lanes.lane_of, declared.planes.Planes.Planes}
 use Rattle.stim_text.specs.declared.lanes.Lanes.{Lanes}
-use Rattle.lane_planes.specs.declared.planes.Planes.{Planes}
 use Rattle.image_defs.specs.declared.image.LinkOut.{LinkOut}
-use Rattle.event_defs.specs.Places.{IsSend, latest, start}
-use Rattle.event_defs.specs.Sound.{IsSound}
-use Rattle.event_defs.specs.declared.place.Place.{Place}
+use Rattle.event_defs.specs.{Places.IsSend, Places.latest, Places.start, Sound.IsSound, declared.place.Place.Place}
 use Rattle.atomic_table.specs.Table.{State}
-use Rattle.slot_words.specs.Layout.{progress_in, sent_in, turns_told}
-use Rattle.slot_words.specs.declared.rule.TheConstants.{UNCLAIMED}
-use Rattle.slot_words.specs.declared.rule.Key.{Key}
+use Rattle.slot_words.specs.packed.Words.{packed, packs, stimulus_of, turns_of}
+use Rattle.slot_words.specs.{Layout.progress_in, Layout.sent_in, Layout.turns_told, declared.rule.TheConstants.UNCLAIMED, declared.rule.Key.Key}
 use Rattle.slot_words.specs.declared.rule.View.{View}
 use Rattle.slot_words.specs.Rule as rule
-use Rattle.slot_words.specs.packed.Words.{packed, packs, stimulus_of, turns_of}
 
 abbrev pub PackKey : Type 0
 PackKey = Key Lanes

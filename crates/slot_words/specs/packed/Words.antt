@@ -1,16 +1,11 @@
 -- What a word of a packed send holds, and what it gives who reads it in a turn.
 use Rattle.std.specs.Prelude.{◌≡◌, ◌≢◌, ◌==◌, Bool, ℕ, ◌+◌, ◌*◌, ◌/◌, ◌%◌, ◌<◌, ◌^◌}
 use Rattle.limits.specs.declared.TheConstants.{LANES}
-use Rattle.lane_planes.specs.Lanes.{lane_of}
-use Rattle.lane_planes.specs.declared.planes.Planes.{Planes}
+use Rattle.lane_planes.specs.{Lanes.lane_of, declared.planes.Planes.Planes}
 use Rattle.net_defs.specs.declared.stimulus.Stimulus.{Stimulus}
-use Rattle.stim_text.specs.Lanes.{AreLanes, lane_stimulus, longest}
-use Rattle.stim_text.specs.declared.lanes.Lanes.{Lanes}
-use Rattle.image_defs.specs.Frames.{image_value}
-use Rattle.image_defs.specs.declared.image.Image.{Image}
-use Rattle.slot_words.specs.declared.feed.Feed.{Ghosts}
-use Rattle.slot_words.specs.declared.pack_words.bar.Packed.{Packed}
-use Rattle.slot_words.specs.declared.pack_words.words.PackTaken.{PackTaken}
+use Rattle.stim_text.specs.{Lanes.AreLanes, Lanes.lane_stimulus, Lanes.longest, declared.lanes.Lanes.Lanes}
+use Rattle.image_defs.specs.{Frames.image_value, declared.image.Image.Image}
+use Rattle.slot_words.specs.declared.{feed.Feed.Ghosts, pack_words.bar.Packed.Packed, pack_words.words.PackTaken.PackTaken}
 use Rattle.slot_words.specs.declared.pack_words.words.PackTaken.TheVariants.{NotYet, Value}
 
 -- the stamp of a turn and that of a word, of which 16 are told apart

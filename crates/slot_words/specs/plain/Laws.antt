@@ -6,8 +6,8 @@ use Rattle.net_defs.specs.Time.{cycle_count}
 use Rattle.image_defs.specs.Frames.{image_value}
 use Rattle.event_defs.proofs.lemmas.WordLemmas.{stamp_in}
 use Rattle.event_defs.specs.Steps.{stamp_of}
-use Rattle.slot_words.specs.Feeds.{AreFew, TellsTurns}
 use Rattle.slot_words.specs.plain.Words.{Fits, IsSent, is_of, turns_of}
+use Rattle.slot_words.specs.Feeds.{AreFew, TellsTurns}
 
 pub plain_few : AreFew Fits turns_of MAX_BANKS
 plain_few = record {

@@ -1,20 +1,14 @@
 -- A crossbar and a pass as contracts see them, and what its calls do with values.
 use Rattle.std.specs.Prelude.{◌≡◌, ℕ, ◌+◌, ◌*◌, ◌%◌, ◌<◌, ◌≤◌, false, Some, slice_get}
-use Rattle.logic_four.specs.Values.{code_of}
-use Rattle.logic_four.specs.declared.V4.{V4}
+use Rattle.logic_four.specs.{Values.code_of, declared.V4.V4}
 use Rattle.net_defs.specs.declared.stimulus.Stimulus.{Stimulus}
-use Rattle.image_defs.specs.Frames.{image_value}
-use Rattle.image_defs.specs.Places.{IsPort, Stands}
-use Rattle.image_defs.specs.declared.image.LinkIn.{LinkIn}
-use Rattle.image_defs.specs.declared.image.LinkOut.{LinkOut}
+use Rattle.image_defs.specs.{Frames.image_value, Places.IsPort, Places.Stands, declared.image.LinkIn.LinkIn, declared.image.LinkOut.LinkOut}
 use Rattle.image_defs.specs.declared.image.PortImage.{PortImage}
 use Rattle.event_defs.specs.Places.{IsSend, after_put, after_take, is_in, known_of}
 use Rattle.event_defs.specs.Steps.{stamp_of}
-use Rattle.slot_words.specs.declared.crossbar.Taken.{Taken}
-use Rattle.slot_words.specs.declared.crossbar.Taken.TheVariants.{NotYet, Value}
-use Rattle.slot_words.specs.Layout.{send_word}
+use Rattle.slot_words.specs.declared.crossbar.Taken.{Taken, TheVariants.NotYet, TheVariants.Value}
+use Rattle.slot_words.specs.{Layout.send_word, plain.Words.plain, plain.Words.turns_of}
 use Rattle.slot_words.specs.Passes as words
-use Rattle.slot_words.specs.plain.Words.{plain, turns_of}
 pub use Rattle.slot_words.specs.Passes.{AreFirstPasses, CanTake, CanTell, IsFirstPass, IsKeyOf, IsMade, IsOf, one_step}
 
 abbrev pub CrossbarView : Type 0

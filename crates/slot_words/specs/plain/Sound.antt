@@ -3,16 +3,11 @@ use Rattle.std.specs.Prelude.{◌≡◌, ◌≢◌, ◌↔◌, ℕ, ◌<◌, len
 use mathlib.Core.Option.{some}
 use lib.ListN.{get_elem?}
 use Rattle.net_defs.specs.declared.stimulus.Stimulus.{Stimulus}
-use Rattle.event_defs.specs.Places.{start}
-use Rattle.event_defs.specs.Sound.{IsSound}
-use Rattle.event_defs.specs.declared.place.Place.{Place}
+use Rattle.event_defs.specs.{Places.start, Sound.IsSound, declared.place.Place.Place}
 use Rattle.atomic_table.specs.Table.{State}
-use Rattle.slot_words.specs.declared.rule.Key.{Key}
-use Rattle.slot_words.specs.declared.rule.TheConstants.{UNCLAIMED}
-use Rattle.slot_words.specs.declared.rule.View.{View}
-use Rattle.slot_words.specs.Layout.{progress_in, sent_in, turns_told}
+use Rattle.slot_words.specs.declared.rule.{Key.Key, TheConstants.UNCLAIMED, View.View}
+use Rattle.slot_words.specs.{Layout.progress_in, Layout.sent_in, Layout.turns_told, plain.Words.plain, plain.Words.turns_of}
 use Rattle.slot_words.specs.Rule as rule
-use Rattle.slot_words.specs.plain.Words.{plain, turns_of}
 
 abbrev pub PlainKey : Type 0
 PlainKey = Key Stimulus

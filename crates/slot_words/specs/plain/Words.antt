@@ -2,15 +2,10 @@
 use Rattle.std.specs.Prelude.{◌≡◌, ◌==◌, Bool, ℕ, ◌+◌, ◌*◌}
 use Rattle.limits.specs.declared.TheConstants.{MAX_BANKS}
 use Rattle.logic_four.specs.Values.{code_of}
-use Rattle.net_defs.specs.Time.{turn_count}
-use Rattle.net_defs.specs.Valid.{IsValidStimulus}
-use Rattle.net_defs.specs.declared.stimulus.Stimulus.{Stimulus}
-use Rattle.image_defs.specs.Frames.{image_value}
-use Rattle.image_defs.specs.Steps.{timing_of}
-use Rattle.image_defs.specs.declared.image.Image.{Image}
+use Rattle.net_defs.specs.{Time.turn_count, Valid.IsValidStimulus, declared.stimulus.Stimulus.Stimulus}
+use Rattle.image_defs.specs.{Frames.image_value, Steps.timing_of, declared.image.Image.Image}
 use Rattle.event_defs.specs.Steps.{stamp_of}
-use Rattle.slot_words.specs.declared.crossbar.Plain.{Plain}
-use Rattle.slot_words.specs.declared.feed.Feed.{Ghosts}
+use Rattle.slot_words.specs.declared.{crossbar.Plain.Plain, feed.Feed.Ghosts}
 
 -- the image may be fed with any valid stimulus
 abbrev pub Fits : Image → Stimulus → Type 0

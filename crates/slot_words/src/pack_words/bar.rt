@@ -4,9 +4,8 @@ ghost use Rattle.std.specs.Prelude.{IfOk, length, ◌<◌, ◌≡◌, ◌≤◌}
 ghost use Rattle.image_defs.specs.WellFormed.{IsWellFormed};
 ghost use Rattle.stim_text.specs.Lanes.{AreLanes};
 ghost use Rattle.event_defs.specs.Places.{after_ask, after_tell, known_of};
-ghost use Rattle.slot_words.specs.Layout.{progress_word};
-ghost use Rattle.slot_words.specs.code.PackedWords.{IsTakenOf};
 ghost use Rattle.slot_words.specs.packed.Passes.{CanPut, CanTake, CanTell, IsMade, IsOf, IsPut, IsRunning, IsTake, one_step};
+ghost use Rattle.slot_words.specs.{Layout.progress_word, code.PackedWords.IsTakenOf};
 
 use crate::feed::Feed;
 use crate::pack_words::words::{PackTaken, packed_word, planes_of};

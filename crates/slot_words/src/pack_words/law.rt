@@ -5,15 +5,12 @@ ghost use Rattle.std.specs.Prelude.{List, ℕ, Some, slice_set, ◌+◌, ◌<◌
 ghost use mathlib.Core.Option.{some};
 ghost use lib.ListN.{get_elem?};
 ghost use Rattle.lane_planes.specs.declared.planes.Planes.{Planes};
-ghost use Rattle.image_defs.specs.Places.{Stands};
-ghost use Rattle.image_defs.specs.declared.image.LinkOut.{LinkOut};
+ghost use Rattle.image_defs.specs.{Places.Stands, declared.image.LinkOut.LinkOut};
 ghost use Rattle.event_defs.specs.Places.{IsSend, known_of};
 ghost use Rattle.atomic_table.specs.Table.{Act, State, stepped};
-ghost use Rattle.slot_words.specs.Layout.{progress_in, told_in, turns_told};
-ghost use Rattle.slot_words.specs.Rule.{AreDistinct, AreLooks};
-ghost use Rattle.slot_words.specs.declared.pack_words.words.PackTaken.{PackTaken};
-ghost use Rattle.slot_words.specs.declared.pack_words.words.PackTaken.TheVariants.{NotYet, Value};
 ghost use Rattle.slot_words.specs.packed.Sound.{ArePassesSound, Kept, PackKey, PackView};
+ghost use Rattle.slot_words.specs.{Layout.progress_in, Layout.told_in, Layout.turns_told, Rule.AreDistinct, Rule.AreLooks};
+ghost use Rattle.slot_words.specs.declared.pack_words.words.PackTaken.{PackTaken, TheVariants.NotYet, TheVariants.Value};
 ghost use Rattle.slot_words.specs.packed.Words.{IsReadIn, packed};
 
 use crate::pack_words::bar::Packed;

@@ -1,8 +1,7 @@
 //! The words of packed sends.
 
 ghost use Rattle.std.specs.Prelude.{◌≡◌};
-ghost use Rattle.slot_words.specs.code.PackedWords.{IsPlanesOf};
-ghost use Rattle.slot_words.specs.packed.Words.{IsReadIn, packed};
+ghost use Rattle.slot_words.specs.{code.PackedWords.IsPlanesOf, packed.Words.IsReadIn, packed.Words.packed};
 
 use lane_planes::Planes;
 use limits::LANES;

@@ -1,22 +1,15 @@
 -- The stimulus of a lane as all lanes run: it is valid, it has the cycles of the longest lane, and the
 -- inputs have what the lane's own stimulus gives them.
 use Rattle.std.proofs.Common.{◌≡◌, ℕ, zero, suc, ◌-◌, ◌*◌, ◌≤◌, max, List, [], ◌∷◌, ◌++◌, length, replicate, Option, Some, None, get_or, sym, ap, ◌∙◌, refl, arith, length-append, append-nil}
-use Rattle.std.specs.Prelude.{slice_get, unwrap_or}
-use Rattle.std.specs.List.{fold, flat_map}
-use Rattle.std.proofs.lemmas.Grind.{flat_map-append}
-use Rattle.std.proofs.lemmas.List.{length-replicate}
+use Rattle.std.proofs.lemmas.{Grind.flat_map-append, List.length-replicate}
+use Rattle.std.specs.{Prelude.slice_get, Prelude.unwrap_or, List.fold, List.flat_map}
 use Rattle.limits.specs.declared.TheConstants.{MAX_CYCLES}
-use Rattle.logic_four.specs.declared.V4.{V4}
-use Rattle.logic_four.specs.declared.V4.TheVariants.{Undef}
-use Rattle.logic_four.specs.Values.{value_at}
+use Rattle.logic_four.specs.{declared.V4.V4, declared.V4.TheVariants.Undef, Values.value_at}
 use Rattle.logic_four.proofs.lemmas.CodeLemmas.{undefined_at}
-use Rattle.net_defs.specs.declared.timing.Timing.{Timing}
-use Rattle.net_defs.specs.declared.stimulus.StimRow.{StimRow}
-use Rattle.net_defs.specs.declared.stimulus.Stimulus.{Stimulus}
 use Rattle.net_defs.specs.Time.{cycle_of, cycle_rows, cycle_count, turn_count, input_at}
-use Rattle.net_defs.specs.Valid.{IsValidStimulus}
-use Rattle.stim_text.specs.declared.lanes.Lanes.{Lanes}
+use Rattle.net_defs.specs.{declared.timing.Timing.Timing, declared.stimulus.StimRow.StimRow, declared.stimulus.Stimulus.Stimulus, Valid.IsValidStimulus}
 use Rattle.stim_text.specs.Lanes.{AreLanes, own_stimulus, longest, rest_rows, padded, lane_stimulus}
+use Rattle.stim_text.specs.declared.lanes.Lanes.{Lanes}
 
 -- ---- a lane's own stimulus
 

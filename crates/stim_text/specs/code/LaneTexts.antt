@@ -1,10 +1,8 @@
 -- Beside specs/LaneTexts.antt, what only private functions and proofs cite.
 use Rattle.std.specs.Prelude.{ℕ, List, Option, Some, None, if◌then◌else◌}
 use Rattle.net_defs.specs.declared.stimulus.StimRow.{StimRow}
-use Rattle.stim_text.specs.declared.lane_line.LaneLine.{LaneLine}
-use Rattle.stim_text.specs.declared.lane_line.LaneLine.TheVariants.{Begins, Blank, Row}
-use Rattle.stim_text.specs.Rows.{row_of}
-use Rattle.stim_text.specs.LaneTexts.{begins_lane}
+use Rattle.stim_text.specs.declared.lane_line.LaneLine.{LaneLine, TheVariants.Begins, TheVariants.Blank, TheVariants.Row}
+use Rattle.stim_text.specs.{Rows.row_of, LaneTexts.begins_lane}
 
 abbrev pub row_line : Option StimRow → LaneLine
 row_line None = Blank

@@ -1,10 +1,8 @@
 -- Lists in slot order that grow.
 use Rattle.std.proofs.Common.{◌≡◌, ◌≢◌, ◌∙◌, ◌⊎◌, inl, inr, ℕ, zero, suc, ◌+◌, ◌<◌, List, [], ◌∷◌, ◌++◌, length, map, get_or, Some, slice_get, sym, ap, subst, arith}
-use Rattle.std.specs.List.{Contains}
-use Rattle.std.specs.List.Sorted.{IsStrictlyIncreasing}
-use Rattle.std.proofs.lemmas.Bool.{cases_eq, cases_lt}
 use Rattle.std.proofs.lemmas.List.{get_or_append_left, get_or_push, get_or-map, length_push, length-map, map-append}
-use Rattle.std.proofs.lemmas.Option.{slice_get_within, slice_get-get_or}
+use Rattle.std.proofs.lemmas.{Bool.cases_eq, Bool.cases_lt, Option.slice_get_within, Option.slice_get-get_or}
+use Rattle.std.specs.List.{Contains, Sorted.IsStrictlyIncreasing}
 use Rattle.list_laws.proofs.Places.{at_front, seam_at}
 use Rattle.switch_set.specs.Links.{IsSlotList}
 

@@ -1,19 +1,12 @@
 -- There is one switch.
 use Rattle.std.proofs.Common.{◌≡◌, ◌∙◌, ◌⊎◌, inl, inr, ℕ, zero, suc, ◌<◌, List, [], ◌∷◌, length, map, get_or, Some, slice_get, refl, sym, ap, subst, arith}
-use Rattle.std.specs.List.{AllPairs, Contains}
-use Rattle.std.specs.List.Sorted.{IsStrictlyIncreasing}
-use Rattle.std.proofs.lemmas.List.{ext_get_or, get_or-map, length-map}
-use Rattle.std.proofs.lemmas.List.Kept.{AllPairs-from_increasing}
+use Rattle.std.proofs.lemmas.List.{ext_get_or, get_or-map, length-map, Kept.AllPairs-from_increasing}
 use Rattle.std.proofs.lemmas.Option.{slice_get_within, slice_get-get_or, get_or_from_slice_get}
+use Rattle.std.specs.List.{AllPairs, Contains, Sorted.IsStrictlyIncreasing}
 use Rattle.node_defs.specs.declared.items.NodeNet.{NodeNet}
-use Rattle.plan_defs.specs.declared.plan.Homes.{Homes}
-use Rattle.plan_defs.specs.declared.switch.Sending.{Sending}
-use Rattle.plan_defs.specs.declared.switch.Receipt.{Receipt}
-use Rattle.plan_defs.specs.declared.switch.PortLinks.{PortLinks}
-use Rattle.plan_defs.specs.declared.switch.Switch.{Switch}
-use Rattle.plan_defs.specs.Lists.{Lists}
-use Rattle.plan_defs.specs.Readers.{IsReader}
 use Rattle.plan_defs.specs.Switches.{IsSent, IsSendingOf, IsReceiptOf, AreSends, AreReceipts, IsSwitch}
+use Rattle.plan_defs.specs.declared.{plan.Homes.Homes, switch.Sending.Sending, switch.Receipt.Receipt, switch.PortLinks.PortLinks, switch.Switch.Switch}
+use Rattle.plan_defs.specs.{Lists.Lists, Readers.IsReader}
 
 -- ---- lists in order
 

@@ -1,13 +1,8 @@
 -- Beside specs/Links.antt, what only private functions and proofs cite.
 use Rattle.std.specs.Prelude.{◌≡◌, ℕ, ◌<◌, List, [], ◌∷◌, ◌++◌, length, Contains, slice_index_or}
 use Rattle.node_defs.specs.declared.items.NodeNet.{NodeNet}
-use Rattle.plan_defs.specs.declared.plan.Homes.{Homes}
-use Rattle.plan_defs.specs.declared.switch.Sending.{Sending}
-use Rattle.plan_defs.specs.declared.switch.Receipt.{Receipt}
-use Rattle.plan_defs.specs.declared.switch.PortLinks.{PortLinks}
-use Rattle.plan_defs.specs.Homes.{ports_of}
-use Rattle.plan_defs.specs.Readers.{IsReader}
-use Rattle.plan_defs.specs.Switches.{IsSendingOf, IsSent, IsReceiptOf}
+use Rattle.plan_defs.specs.declared.{plan.Homes.Homes, switch.Sending.Sending, switch.Receipt.Receipt, switch.PortLinks.PortLinks}
+use Rattle.plan_defs.specs.{Homes.ports_of, Readers.IsReader, Switches.IsSendingOf, Switches.IsSent, Switches.IsReceiptOf}
 use Rattle.switch_set.specs.Links.{IsSlotList}
 
 -- what the port of this number sends and receives; nothing past the last port

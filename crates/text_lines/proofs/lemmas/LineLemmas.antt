@@ -1,12 +1,10 @@
 -- The lines of a text, one after another.
 use Rattle.std.proofs.Common.{◌≡◌, ℕ, ◌+◌, ◌<◌, ◌≤◌, List, [], ◌∷◌, length, map, take, drop, Some, None, sym, ap, ◌∙◌, ⊎_elim, refl, inl, inr, get_or, arith, take_all, ltb}
-use Rattle.std.specs.Option.{option_map}
-use Rattle.std.proofs.lemmas.Bool.{cases_lt, cond-true, lt-ltb}
-use Rattle.std.proofs.lemmas.List.{drop_all, drop_more}
+use Rattle.std.proofs.lemmas.{Bool.cases_lt, Bool.cond-true, Bool.lt-ltb, List.drop_all, List.drop_more}
 use Rattle.std.specs.List.{enumerate_from, before_first, after_first, position_or_len}
+use Rattle.std.specs.Option.{option_map}
 use Rattle.text_lines.proofs.lemmas.AnswerLemmas.{none_is_not_some}
-use Rattle.text_lines.specs.Bytes.{is_line_feed, cut_at}
-use Rattle.text_lines.specs.Lines.{lines_of, part_of, parts_of}
+use Rattle.text_lines.specs.{Bytes.is_line_feed, Bytes.cut_at, Lines.lines_of, Lines.part_of, Lines.parts_of}
 
 -- the first line stands before the first LF
 pub lines_of_first : (text : List ℕ) → 0 < length text → lines_of text ≡ before_first is_line_feed text ∷ lines_of (after_first is_line_feed text)

@@ -1,11 +1,8 @@
 -- No part of a line is longer than the text.
 use Rattle.std.proofs.Common.{◌==◌, slice_index, ℕ, suc, ◌+◌, ◌-◌, ◌<◌, ◌≤◌, Bool, true, false, cond, List, [], ◌∷◌, length, take, map, get_or, subst, arith}
-use Rattle.std.specs.List.{AllByRecursion, position_or_len, onto_first}
-use Rattle.std.specs.Str.Lines.{strip_carriage_return}
-use Rattle.std.proofs.lemmas.List.{length-take}
-use Rattle.std.proofs.lemmas.List.Elements.{All-from_recursion}
-use Rattle.text_lines.specs.Bytes.{is_line_feed, is_hash}
-use Rattle.text_lines.specs.Lines.{lines_of, part_of, parts_of}
+use Rattle.std.proofs.lemmas.List.{length-take, Elements.All-from_recursion}
+use Rattle.std.specs.{List.AllByRecursion, List.position_or_len, List.onto_first, Str.Lines.strip_carriage_return}
+use Rattle.text_lines.specs.{Bytes.is_line_feed, Bytes.is_hash, Lines.lines_of, Lines.part_of, Lines.parts_of}
 
 abbrev IsWithin : ℕ → List ℕ → Type 0
 IsWithin n line = length line ≤ n

@@ -3,14 +3,9 @@ use Rattle.std.proofs.Common.{◌≡◌, refl, sym, subst, inl, inr, ℕ, Bool, 
 use Rattle.std.specs.Result.{IsErr, IsErrAnd}
 use Rattle.crew_run.specs.declared.gate.Gate as gate
 use Rattle.edge_io.specs.declared.counts.FileCounts.{FileCounts}
-use Rattle.call_steps.specs.Checks.{After, Refuses}
-use Rattle.call_steps.specs.Outcome.{Outcome}
-use Rattle.call_steps.specs.Readings.{Reading}
-use Rattle.call_steps.specs.Refused.{refused_of}
-use Rattle.yse_commands.specs.declared.output.Output.{Output}
+use Rattle.call_steps.specs.{Checks.After, Checks.Refuses, Outcome.Outcome, Readings.Reading, Refused.refused_of}
+use Rattle.yse_commands.specs.{declared.output.Output.Output, Refusals.Follows, Refusals.outcome_of, Telling.Comes}
 use Rattle.refusals.specs.declared.refusal.Refusal.{Refusal}
-use Rattle.yse_commands.specs.Refusals.{Follows, outcome_of}
-use Rattle.yse_commands.specs.Telling.{Comes}
 use Rattle.call_steps.proofs.lemmas.ReadingLemmas.{no_readings}
 
 module _ (names : Option (List ℕ → Bool)) (bytes : Option (List ℕ → List ℕ)) where

@@ -1,53 +1,35 @@
 -- What the files of a call say of its outcome: the output of a simulation is the trace of what they read as, and the gates
 -- are told of its turns.
 use Rattle.std.proofs.Common.{◌≡◌, ◌∙◌, sym, ap, refl, subst, inl, inr, ℕ, zero, suc, List, [], ◌∷◌, Option, Some, None, Result, Ok, Err, Bool, true, false}
-use Rattle.std.specs.Prelude.{slice_get, IfSome, nat_le, length, if◌then◌else◌}
 use Rattle.std.proofs.lemmas.Option.{none-some}
+use Rattle.std.specs.Prelude.{slice_get, IfSome, nat_le, length, if◌then◌else◌}
 use Rattle.limits.specs.declared.TheConstants.{MAX_TEXT_BYTES}
 use Rattle.edge_io.specs.Names.{OfTold}
-use Rattle.net_defs.specs.declared.homes.HomeChoice.{HomeChoice}
-use Rattle.net_defs.specs.declared.faults.Fault.{Fault}
-use Rattle.net_defs.specs.declared.netlist.Netlist.{Netlist}
-use Rattle.net_defs.specs.declared.stimulus.Stimulus.{Stimulus}
-use Rattle.net_defs.specs.declared.timing.Timing.{Timing}
-use Rattle.net_defs.specs.Canonical.{canonical_text}
-use Rattle.net_defs.specs.Trace.{IsTrace}
-use Rattle.cmd_words.specs.declared.command.Command.{Command}
+use Rattle.net_defs.specs.declared.{homes.HomeChoice.HomeChoice, faults.Fault.Fault, netlist.Netlist.Netlist, stimulus.Stimulus.Stimulus, timing.Timing.Timing}
+use Rattle.net_defs.specs.{Canonical.canonical_text, Trace.IsTrace}
+use Rattle.cmd_words.specs.declared.command.{Command.Command, RunWords.RunWords}
 use Rattle.cmd_words.specs.declared.command.Command.TheVariants as command
-use Rattle.cmd_words.specs.declared.command.RunWords.{RunWords}
-use Rattle.stim_text.specs.declared.order.Order.{Order}
+use Rattle.stim_text.specs.declared.{order.Order.Order, lanes.Lanes.Lanes}
 use Rattle.image_defs.specs.declared.image.Image.{Image}
-use Rattle.machine_text.specs.declared.machine.Machine.{Machine}
-use Rattle.machine_text.specs.Machines.{default_machine, ports_of}
-use Rattle.stim_text.specs.declared.lanes.Lanes.{Lanes}
-use Rattle.refusals.specs.declared.status.Status.{Status}
+use Rattle.machine_text.specs.{declared.machine.Machine.Machine, Machines.default_machine, Machines.ports_of}
+use Rattle.refusals.specs.{declared.status.Status.Status, Lines.too_long_line}
 use Rattle.refusals.specs.declared.status.Status.TheVariants as status
 use Rattle.call_steps.specs.Checks.{After, AfterRead, AfterFile, Ends, Writes, WritesTold, text_of, IsFaultListOf, IsLanesOf, HasFewBits, HasFewLaneCells, HasFewSignals, IsMachineOf, IsNetlistOf, HasNoLoop, HasRoom, IsStimulusOf, HasFewCells, IsListOf, IsOrderOf, listing}
-use Rattle.call_steps.specs.Designs.{Placed, Prepared}
-use Rattle.call_steps.specs.declared.reading.Timed.{Timed}
 use Rattle.call_steps.specs.Passing.{AfterPlaced, AfterPlacedOn, AfterReady, Continuation, placed}
-use Rattle.yse_commands.specs.Ends.{MayWrite}
-use Rattle.yse_commands.specs.Expected.{ExpectedOf}
-use Rattle.call_steps.specs.Outcome.{Outcome, Turns, refusal}
-use Rattle.refusals.specs.Lines.{too_long_line}
-use Rattle.call_steps.specs.Readings.{Reading}
-use Rattle.help_text.specs.Texts.{text_of as help_of}
-use Rattle.yse_commands.specs.Told.{lanes_turns, run_turns}
+use Rattle.call_steps.specs.Files.{AfterFaultList, AfterFit, AfterImage, AfterLanes, AfterList, AfterMachine, AfterMatch, AfterNetlist, AfterStimulus}
+use Rattle.call_steps.specs.{Designs.Placed, Designs.Prepared, declared.reading.Timed.Timed, Outcome.Outcome, Outcome.Turns, Outcome.refusal, Readings.Reading}
+use Rattle.call_steps.specs.Images.{IsAccepted, IsImageFileOf}
 use Rattle.yse_commands.specs.Traced.{AreFaultsOfFile, AreLanesOfFiles, AreOfFiles, AreTracesOfFiles, IsCoverageOfFiles, IsFaultListOfFiles, IsOutputOfFiles, IsTimingOfFile, IsTraceOfFiles}
-use Rattle.yse_commands.specs.Orders.{EndsIn}
 use Rattle.yse_commands.specs.Visited.{AreTold, AreTurnsOf, AreTurnsOfFiles, AreTurnsOfImage, AreTurnsOfLanes, IsMachineOfFile}
 use Rattle.yse_commands.specs.commands.Cover.{CoversIn, ExpectedCover, IsCoverage, WritesCoverage}
 use Rattle.yse_commands.specs.commands.Fault.{AfterListed, ExpectedFault, FaultsIn, IsFaultList, ListsFaults, listed_or_all}
-use Rattle.call_steps.specs.Files.{AfterFaultList, AfterFit, AfterImage, AfterLanes, AfterList, AfterMachine, AfterMatch, AfterNetlist, AfterStimulus}
-use Rattle.yse_commands.specs.commands.Layout.{ExpectedLayout, IsSheetOf}
-use Rattle.yse_commands.specs.declared.layout.Sheet.{Sheet}
-use Rattle.yse_commands.specs.declared.layout.Sheet.TheVariants as sheet
-use Rattle.yse_commands.specs.commands.Large.{ExpectedLarge}
 use Rattle.yse_commands.specs.commands.Pack.{AreLaneTraces, ExpectedPack, KeepsLanes, Packs}
-use Rattle.yse_commands.specs.commands.Exec.{ExpectedExec, OnImage, RunsImage}
-use Rattle.call_steps.specs.Images.{IsAccepted, IsImageFileOf}
 use Rattle.yse_commands.specs.commands.Run.{AfterLoop, EndsAfter, EndsByOrder, ExpectedOrder, ExpectedRefer, ExpectedRun, KeepsTrace, OrdersOn, RunsOn, RunsTo, WritesTrace}
-use Rattle.yse_commands.specs.commands.Show.{ExpectedShow}
+use Rattle.yse_commands.specs.{Ends.MayWrite, Expected.ExpectedOf, Told.lanes_turns, Told.run_turns, Orders.EndsIn}
+use Rattle.yse_commands.specs.{commands.Layout.ExpectedLayout, commands.Layout.IsSheetOf, declared.layout.Sheet.Sheet, commands.Large.ExpectedLarge}
+use Rattle.yse_commands.specs.commands.{Exec.ExpectedExec, Exec.OnImage, Exec.RunsImage, Show.ExpectedShow}
+use Rattle.help_text.specs.Texts.{text_of as help_of}
+use Rattle.yse_commands.specs.declared.layout.Sheet.TheVariants as sheet
 use Rattle.yse_commands.proofs.lemmas.AnswerLemmas.{passes, refuses, refused_once, never_both}
 
 -- the text of a file that passes is its bytes

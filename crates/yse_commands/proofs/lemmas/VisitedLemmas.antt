@@ -2,19 +2,13 @@
 use Rattle.std.proofs.Common.{◌≡◌, sym, refl, subst, inl, ℕ, List, Option, Some, None, Result, Ok, Err}
 use Rattle.std.specs.Prelude.{OnErr}
 use Rattle.crew_run.specs.declared.gate.Gate as gate
-use Rattle.edge_io.specs.declared.writing.WriteNo.{WriteNo}
-use Rattle.edge_io.specs.declared.writing.WriteNo.TheVariants.{Failed}
-use Rattle.call_steps.specs.Outcome.{Turns}
-use Rattle.call_steps.specs.Refused.{refused_of}
-use Rattle.refusals.specs.declared.refusal.Refusal.{Refusal}
+use Rattle.edge_io.specs.declared.writing.WriteNo.{WriteNo, TheVariants.Failed}
+use Rattle.call_steps.specs.{Outcome.Turns, Refused.refused_of}
+use Rattle.refusals.specs.declared.{refusal.Refusal.Refusal, status.Status.Status}
 use Rattle.refusals.specs.declared.refusal.Refusal.TheVariants as refusal
-use Rattle.refusals.specs.declared.status.Status.{Status}
 use Rattle.refusals.specs.declared.status.Status.TheVariants as status
-use Rattle.yse_commands.specs.declared.output.Output.{Output}
+use Rattle.yse_commands.specs.{declared.output.Output.Output, Ends.IsWhole, Ends.MayWrite, Refusals.ended_with, Told.IsCut, Told.TellsTurns, Told.wrote_at}
 use Rattle.yse_commands.specs.declared.output.Output.TheVariants as output
-use Rattle.yse_commands.specs.Ends.{IsWhole, MayWrite}
-use Rattle.yse_commands.specs.Refusals.{ended_with}
-use Rattle.yse_commands.specs.Told.{IsCut, TellsTurns, wrote_at}
 
 -- ---- outcomes at which something may be written
 

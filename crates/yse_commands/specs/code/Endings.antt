@@ -1,11 +1,9 @@
 -- How a call ends after its output is written.
 use Rattle.std.specs.Prelude.{◌≡◌, ℕ, List, Option, Some, None}
-use Rattle.yse_commands.specs.declared.output.Ending.{Ending}
-use Rattle.yse_commands.specs.declared.output.Output.{Output}
+use Rattle.yse_commands.specs.declared.output.{Ending.Ending, Output.Output}
 use Rattle.yse_commands.specs.declared.output.Output.TheVariants as output
-use Rattle.refusals.specs.declared.status.Status.{Status}
+use Rattle.refusals.specs.{declared.status.Status.Status, Lines.unfinished_line}
 use Rattle.refusals.specs.declared.status.Status.TheVariants as status
-use Rattle.refusals.specs.Lines.{unfinished_line}
 use Rattle.edge_io.specs.Writing.{TakesLine}
 
 -- where the run of an output ended, if it was not finished

@@ -1,11 +1,7 @@
 -- Beside specs/Outputs.antt, what only private functions and proofs cite.
 use Rattle.std.specs.Prelude.{List}
-use Rattle.net_defs.specs.declared.netlist.Netlist.{Netlist}
-use Rattle.net_defs.specs.declared.timing.Timing.{Timing}
-use Rattle.net_defs.specs.declared.stimulus.Stimulus.{Stimulus}
-use Rattle.net_defs.specs.declared.trace.Rows.{Rows}
-use Rattle.net_defs.specs.Reference.{IsSimulation}
-use Rattle.net_defs.specs.Steps.{State}
+use Rattle.net_defs.specs.declared.{netlist.Netlist.Netlist, timing.Timing.Timing, stimulus.Stimulus.Stimulus, trace.Rows.Rows}
+use Rattle.net_defs.specs.{Reference.IsSimulation, Steps.State}
 use Rattle.ref_sim.specs.Runs.{AreCells}
 
 -- the rows are the printed values of the reference simulation

@@ -1,14 +1,10 @@
 -- `compile`: the text of the image of the design on the machine.
 use Rattle.std.specs.Prelude.{◌≡◌, ℕ, List}
 use Rattle.machine_text.specs.declared.machine.Machine.{Machine}
-use Rattle.net_defs.specs.declared.homes.HomeChoice.{HomeChoice}
-use Rattle.net_defs.specs.declared.netlist.Netlist.{Netlist}
-use Rattle.net_defs.specs.declared.timing.Timing.{Timing}
+use Rattle.net_defs.specs.declared.{homes.HomeChoice.HomeChoice, netlist.Netlist.Netlist, timing.Timing.Timing}
 use Rattle.image_defs.specs.declared.file.ImageFile.{ImageFile}
 use Rattle.image_file.specs.Files.{image_text}
-use Rattle.yse_compile.specs.declared.choose.Chosen.{Chosen}
-use Rattle.yse_compile.specs.Chosen.{IsChosen}
-use Rattle.yse_compile.specs.Claims.{AreClaimsOf}
+use Rattle.yse_compile.specs.{declared.choose.Chosen.Chosen, Chosen.IsChosen, Claims.AreClaimsOf}
 
 -- the output is the text of the image that the netlist is compiled to, at the homes that are used, where each place
 -- claims the item that the plan puts there

@@ -1,18 +1,12 @@
 -- `cover`: which values each signal of a netlist had, and which changes it made, under a stimulus. No cells are kept, so
 -- they have no limit.
 use Rattle.std.specs.Prelude.{◌≡◌, ℕ, List}
-use Rattle.cover_sim.specs.Lines.{cover_lines}
-use Rattle.cover_sim.specs.Marks.{AreMarks}
-use Rattle.cover_sim.specs.declared.marks.Marks.{Marks}
+use Rattle.cover_sim.specs.{Lines.cover_lines, Marks.AreMarks, declared.marks.Marks.Marks}
 use Rattle.edge_io.specs.Writing.{joined}
-use Rattle.net_defs.specs.declared.netlist.Netlist.{Netlist}
-use Rattle.net_defs.specs.declared.stimulus.Stimulus.{Stimulus}
-use Rattle.net_defs.specs.declared.timing.Timing.{Timing}
+use Rattle.net_defs.specs.declared.{netlist.Netlist.Netlist, stimulus.Stimulus.Stimulus, timing.Timing.Timing}
 use Rattle.cmd_words.specs.declared.command.RunWords.{RunWords}
 use Rattle.call_steps.specs.Checks.{After, Ends, Writes, HasNoLoop}
-use Rattle.call_steps.specs.Outcome.{Outcome}
-use Rattle.call_steps.specs.Readings.{Reading}
-use Rattle.call_steps.specs.Files.{AfterNetlist, AfterStimulus}
+use Rattle.call_steps.specs.{Outcome.Outcome, Readings.Reading, Files.AfterNetlist, Files.AfterStimulus}
 
 -- the output is a line for the marks of each signal, and a last one on how many signals have all
 pub record IsCoverage (net : Netlist) (timing : Timing) (stimulus : Stimulus) (output : List ℕ) : Type 0 where

@@ -3,15 +3,11 @@
 -- image has to fit, and no limit on cells.
 use Rattle.std.specs.Prelude.{◌≡◌, ◌⊎◌, ◌≤◌, ◌∷◌, List, ℕ, length, Some}
 use Rattle.limits.specs.declared.TheConstants.{MAX_TEXT_BYTES}
-use Rattle.net_defs.specs.declared.netlist.Netlist.{Netlist}
-use Rattle.net_defs.specs.declared.timing.Timing.{Timing}
-use Rattle.image_defs.specs.declared.image.Image.{Image}
+use Rattle.net_defs.specs.declared.{netlist.Netlist.Netlist, timing.Timing.Timing}
+use Rattle.image_defs.specs.declared.{image.Image.Image, file.ImageFile.ImageFile}
 use Rattle.image_file.specs.Files.{image_text}
-use Rattle.image_defs.specs.declared.file.ImageFile.{ImageFile}
 use Rattle.cmd_words.specs.declared.command.RunWords.{RunWords}
-use Rattle.call_steps.specs.Outcome.{Outcome, out_of_memory}
-use Rattle.call_steps.specs.Readings.{Reading}
-use Rattle.call_steps.specs.Checks.{After, HasNoLoop}
+use Rattle.call_steps.specs.{Outcome.Outcome, Outcome.out_of_memory, Readings.Reading, Checks.After, Checks.HasNoLoop}
 use Rattle.call_steps.specs.Files.{AfterImage, AfterNetlist, AfterStimulus}
 use Rattle.yse_commands.specs.commands.Run.{RunsTo}
 

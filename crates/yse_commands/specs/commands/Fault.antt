@@ -1,19 +1,11 @@
 -- `fault`: where stuck faults of a netlist are first seen under a stimulus. No cells are kept, so they have no limit.
 use Rattle.std.specs.Prelude.{◌≡◌, ℕ, List, Option, Some, None}
 use Rattle.edge_io.specs.Writing.{joined}
-use Rattle.fault_sim.specs.Lines.{fault_lines}
-use Rattle.fault_sim.specs.declared.faults.Verdict.{Verdict}
-use Rattle.fault_sim.specs.Faults.{all_faults}
-use Rattle.fault_sim.specs.Verdicts.{AreVerdicts}
-use Rattle.net_defs.specs.declared.faults.Fault.{Fault}
-use Rattle.net_defs.specs.declared.netlist.Netlist.{Netlist}
-use Rattle.net_defs.specs.declared.stimulus.Stimulus.{Stimulus}
-use Rattle.net_defs.specs.declared.timing.Timing.{Timing}
+use Rattle.fault_sim.specs.{Lines.fault_lines, declared.faults.Verdict.Verdict, Faults.all_faults, Verdicts.AreVerdicts}
+use Rattle.net_defs.specs.declared.{faults.Fault.Fault, netlist.Netlist.Netlist, stimulus.Stimulus.Stimulus, timing.Timing.Timing}
 use Rattle.cmd_words.specs.declared.command.RunWords.{RunWords}
 use Rattle.call_steps.specs.Checks.{After, Ends, Writes, HasFewSignals, HasNoLoop}
-use Rattle.call_steps.specs.Outcome.{Outcome}
-use Rattle.call_steps.specs.Readings.{Reading}
-use Rattle.call_steps.specs.Files.{AfterFaultList, AfterNetlist, AfterStimulus}
+use Rattle.call_steps.specs.{Outcome.Outcome, Readings.Reading, Files.AfterFaultList, Files.AfterNetlist, Files.AfterStimulus}
 
 -- the stuck faults of a list, and all of the netlist where there is no list
 abbrev pub listed_or_all : Netlist → Option (List Fault) → List Fault

@@ -2,9 +2,7 @@
 use Rattle.std.specs.Prelude.{◌≡◌, List, Option}
 use Rattle.cmd_words.specs.declared.topic.Topic.{Topic}
 use Rattle.help_text.specs.Texts.{text_of}
-use Rattle.call_steps.specs.Checks.{Ends, Writes}
-use Rattle.call_steps.specs.Outcome.{Outcome}
-use Rattle.call_steps.specs.Readings.{Reading}
+use Rattle.call_steps.specs.{Checks.Ends, Checks.Writes, Outcome.Outcome, Readings.Reading}
 
 -- the text, without a file
 abbrev pub ExpectedHelp : Option Topic → List Reading → Outcome → Type 0

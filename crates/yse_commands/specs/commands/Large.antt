@@ -1,9 +1,7 @@
 -- `large`: the summary of a run of a generated design. It always fits its machine, so nothing is refused.
 use Rattle.std.specs.Prelude.{◌≡◌, ◌⊎◌, List, ℕ, Some}
 use Rattle.large_run.specs.Runs.{IsSummaryOf}
-use Rattle.call_steps.specs.Checks.{Ends, WritesTold}
-use Rattle.call_steps.specs.Outcome.{Outcome, out_of_memory, telling}
-use Rattle.call_steps.specs.Readings.{Reading}
+use Rattle.call_steps.specs.{Checks.Ends, Checks.WritesTold, Outcome.Outcome, Outcome.out_of_memory, Outcome.telling, Readings.Reading}
 use Rattle.yse_commands.specs.Told.{large_turns}
 
 -- the summary, without a file; memory for it may be wanting after the run

@@ -1,18 +1,11 @@
 -- `plan` and `compile`: what a design is laid out as, after the same checks.
 use Rattle.std.specs.Prelude.{List, ℕ}
 use Rattle.machine_text.specs.declared.machine.Machine.{Machine}
-use Rattle.net_defs.specs.declared.homes.HomeChoice.{HomeChoice}
-use Rattle.net_defs.specs.declared.netlist.Netlist.{Netlist}
-use Rattle.net_defs.specs.declared.timing.Timing.{Timing}
+use Rattle.net_defs.specs.declared.{homes.HomeChoice.HomeChoice, netlist.Netlist.Netlist, timing.Timing.Timing}
 use Rattle.cmd_words.specs.declared.command.RunWords.{RunWords}
-use Rattle.yse_commands.specs.declared.layout.Sheet.{Sheet}
+use Rattle.yse_commands.specs.{declared.layout.Sheet.Sheet, commands.Compile.IsImageTextOf, commands.Plan.IsReportOf}
 use Rattle.yse_commands.specs.declared.layout.Sheet.TheVariants as sheet
-use Rattle.call_steps.specs.Checks.{Ends, Writes}
-use Rattle.call_steps.specs.Outcome.{Outcome}
-use Rattle.call_steps.specs.Readings.{Reading}
-use Rattle.yse_commands.specs.commands.Compile.{IsImageTextOf}
-use Rattle.yse_commands.specs.commands.Plan.{IsReportOf}
-use Rattle.call_steps.specs.Files.{AfterFit, AfterMachine, AfterNetlist}
+use Rattle.call_steps.specs.{Checks.Ends, Checks.Writes, Outcome.Outcome, Readings.Reading, Files.AfterFit, Files.AfterMachine, Files.AfterNetlist}
 
 -- the output is what is asked of the design
 abbrev pub IsSheetOf : Sheet → HomeChoice → Netlist → Machine → Timing → List ℕ → Type 0

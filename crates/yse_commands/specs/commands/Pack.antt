@@ -2,18 +2,11 @@
 -- each lane has its own content of each memory, so both have a limit.
 use Rattle.std.specs.Prelude.{◌≡◌, ℕ, ◌+◌, List, [], ◌∷◌, ◌++◌, Some}
 use Rattle.trace_text.specs.Lines.{lane_line}
-use Rattle.net_defs.specs.declared.netlist.Netlist.{Netlist}
-use Rattle.net_defs.specs.declared.stimulus.Stimulus.{Stimulus}
-use Rattle.net_defs.specs.declared.timing.Timing.{Timing}
-use Rattle.net_defs.specs.Trace.{IsTrace}
+use Rattle.net_defs.specs.{declared.netlist.Netlist.Netlist, declared.stimulus.Stimulus.Stimulus, declared.timing.Timing.Timing, Trace.IsTrace}
 use Rattle.stim_text.specs.declared.lanes.Lanes.{Lanes}
 use Rattle.cmd_words.specs.declared.command.RunWords.{RunWords}
 use Rattle.call_steps.specs.Checks.{After, Ends, WritesTold, HasFewBits, HasFewLaneCells}
-use Rattle.call_steps.specs.Outcome.{Outcome}
-use Rattle.call_steps.specs.Readings.{Reading}
-use Rattle.call_steps.specs.Designs.{Placed}
-use Rattle.call_steps.specs.Files.{AfterLanes}
-use Rattle.call_steps.specs.Passing.{AfterPlaced, Continuation}
+use Rattle.call_steps.specs.{Outcome.Outcome, Readings.Reading, Designs.Placed, Files.AfterLanes, Passing.AfterPlaced, Passing.Continuation}
 use Rattle.yse_commands.specs.Told.{lanes_turns}
 
 -- for each lane after the first n the line with its number, and then the trace of the lane's own stimulus

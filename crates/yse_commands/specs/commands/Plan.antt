@@ -1,18 +1,12 @@
 -- `plan`: the report of the plan of the design on the machine.
 use Rattle.std.specs.Prelude.{◌≡◌, ℕ, Bool, true, false, List, [], ◌++◌, codes, decimal}
 use Rattle.machine_text.specs.declared.machine.Machine.{Machine}
-use Rattle.net_defs.specs.declared.homes.HomeChoice.{HomeChoice}
-use Rattle.net_defs.specs.declared.homes.HomeChoice.TheVariants.{Plain, Better}
-use Rattle.net_defs.specs.declared.netlist.Netlist.{Netlist}
-use Rattle.net_defs.specs.declared.timing.Timing.{Timing}
+use Rattle.net_defs.specs.declared.homes.HomeChoice.{HomeChoice, TheVariants.Plain, TheVariants.Better}
+use Rattle.net_defs.specs.declared.{netlist.Netlist.Netlist, timing.Timing.Timing}
 use Rattle.node_defs.specs.Order.{AreItems}
-use Rattle.plan_defs.specs.declared.plan.Homes.{Homes}
-use Rattle.plan_defs.specs.Picks.{ArePicked}
-use Rattle.plan_defs.specs.Slots.{IsFirstFitPlan}
-use Rattle.plan_defs.specs.Tables.{Fits}
+use Rattle.plan_defs.specs.{declared.plan.Homes.Homes, Picks.ArePicked, Slots.IsFirstFitPlan, Tables.Fits}
 use Rattle.plan_text.specs.Reports.{IsReport}
-use Rattle.yse_compile.specs.declared.choose.Chosen.{Chosen}
-use Rattle.yse_compile.specs.Chosen.{IsUsed}
+use Rattle.yse_compile.specs.{declared.choose.Chosen.Chosen, Chosen.IsUsed}
 
 abbrev pub homes_word : Bool → List ℕ
 homes_word false = codes "plain"

@@ -3,20 +3,13 @@
 -- all cycles, and have a limit on them; a run has none.
 use Rattle.std.specs.Prelude.{List, ℕ, Option, Some, None}
 use Rattle.machine_text.specs.Machines.{ports_of}
-use Rattle.net_defs.specs.declared.netlist.Netlist.{Netlist}
-use Rattle.net_defs.specs.declared.stimulus.Stimulus.{Stimulus}
-use Rattle.net_defs.specs.declared.timing.Timing.{Timing}
-use Rattle.net_defs.specs.Trace.{IsTrace}
+use Rattle.net_defs.specs.{declared.netlist.Netlist.Netlist, declared.stimulus.Stimulus.Stimulus, declared.timing.Timing.Timing, Trace.IsTrace}
 use Rattle.cmd_words.specs.declared.command.RunWords.{RunWords}
 use Rattle.call_steps.specs.Checks.{After, Ends, Writes, WritesTold, HasNoLoop, HasFewCells}
-use Rattle.call_steps.specs.Designs.{Placed, Prepared}
-use Rattle.yse_commands.specs.Orders.{EndsInOrder}
-use Rattle.call_steps.specs.Outcome.{Outcome}
-use Rattle.call_steps.specs.Readings.{Reading}
-use Rattle.call_steps.specs.Files.{AfterNetlist, AfterStimulus}
+use Rattle.call_steps.specs.{Designs.Placed, Designs.Prepared, Outcome.Outcome, Readings.Reading, Files.AfterNetlist, Files.AfterStimulus}
 use Rattle.call_steps.specs.Passing.{AfterOrderFile, AfterReady, Continuation}
+use Rattle.yse_commands.specs.{Orders.EndsInOrder, Told.run_turns}
 use Rattle.stim_text.specs.declared.order.Order.{Order}
-use Rattle.yse_commands.specs.Told.{run_turns}
 
 -- the trace of a run of so many ports is written, and the gates are told of its turns
 abbrev pub RunsTo : ℕ → RunWords → Timing → Netlist → Stimulus → List Reading → Outcome → Type 0

@@ -2,8 +2,7 @@
 use Rattle.std.specs.Prelude.{◌≡◌, List, ℕ}
 use Rattle.net_defs.specs.Canonical.{canonical_text}
 use Rattle.call_steps.specs.Checks.{After, AfterFile, Ends, Writes, IsNetlistOf}
-use Rattle.call_steps.specs.Outcome.{Outcome}
-use Rattle.call_steps.specs.Readings.{Reading}
+use Rattle.call_steps.specs.{Outcome.Outcome, Readings.Reading}
 
 -- the netlist file, its text, and the canonical one
 unfoldable pub ExpectedShow : List ℕ → List Reading → Outcome → Type 0

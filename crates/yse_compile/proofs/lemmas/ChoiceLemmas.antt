@@ -1,36 +1,21 @@
 -- By a choice of homes a design fits or is refused, and it has one design's homes.
 use Rattle.std.proofs.Common.{◌≡◌, ◌∙◌, ◌⊎◌, inl, inr, ℕ, true, false, refl, sym, ap, subst}
-use Rattle.machine_text.specs.declared.machine.Machine.{Machine}
-use Rattle.machine_text.specs.Machines.{IsValid as IsValidMachine}
-use Rattle.net_defs.specs.declared.homes.HomeChoice.{HomeChoice}
-use Rattle.net_defs.specs.declared.homes.HomeChoice.TheVariants.{Plain, Better}
-use Rattle.net_defs.specs.declared.netlist.Netlist.{Netlist}
-use Rattle.net_defs.specs.declared.timing.Timing.{Timing}
-use Rattle.node_defs.specs.declared.items.NodeNet.{NodeNet}
-use Rattle.node_defs.specs.Order.{AreItems}
-use Rattle.node_defs.specs.WellFormed.{IsWellFormed}
-use Rattle.plan_defs.specs.declared.plan.Homes.{Homes}
-use Rattle.plan_defs.specs.Homes.{AreHomes}
-use Rattle.plan_defs.specs.Picks.{ArePicked}
-use Rattle.plan_defs.specs.Slots.{IsFirstFitPlan}
-use Rattle.plan_defs.specs.Tables.{Fits}
-use Rattle.home_pick.specs.Better.{bound_of, IsBetter}
-use Rattle.home_pick.specs.Crossings.{crossings}
-use Rattle.home_pick.proofs.PassLemmas.{passes_way, start_way}
-use Rattle.home_pick.specs.declared.pick.HomeNo.{HomeNo}
+use Rattle.machine_text.specs.{declared.machine.Machine.Machine, Machines.IsValid as IsValidMachine}
+use Rattle.net_defs.specs.declared.homes.HomeChoice.{HomeChoice, TheVariants.Plain, TheVariants.Better}
+use Rattle.net_defs.specs.declared.{netlist.Netlist.Netlist, timing.Timing.Timing}
+use Rattle.node_defs.specs.{declared.items.NodeNet.NodeNet, Order.AreItems, WellFormed.IsWellFormed}
+use Rattle.plan_defs.specs.{declared.plan.Homes.Homes, Homes.AreHomes, Picks.ArePicked, Slots.IsFirstFitPlan, Tables.Fits}
+use Rattle.home_pick.specs.{Better.bound_of, Better.IsBetter, Crossings.crossings, declared.pick.HomeNo.HomeNo}
 use Rattle.home_pick.specs.declared.pick.HomeNo.TheVariants.{Bits as NoBits, Memory as NoRoom, Nodes as ManyNodes}
 use Rattle.home_pick.specs.Refusals.{IsRight as LacksHomes}
-use Rattle.home_pick.proofs.HomeLemmas.{homes_are}
-use Rattle.slot_plan.specs.declared.fit.PlanNo.{PlanNo}
-use Rattle.slot_plan.specs.declared.fit.PlanNo.TheVariants.{Slots as ManySlots, Functions as ManyFunctions, Memory as NoMemory}
+use Rattle.home_pick.proofs.{PassLemmas.passes_way, PassLemmas.start_way, HomeLemmas.homes_are}
+use Rattle.slot_plan.specs.declared.fit.PlanNo.{PlanNo, TheVariants.Slots as ManySlots, TheVariants.Functions as ManyFunctions, TheVariants.Memory as NoMemory}
 use Rattle.slot_plan.specs.Refusals.{IsCrowded, IsLong, IsRight as IsUnplanned}
-use Rattle.yse_compile.specs.declared.choose.Chosen.{Chosen}
-use Rattle.yse_compile.specs.declared.compiler.Compiled.{Compiled}
-use Rattle.yse_compile.specs.declared.compiler.CompNo.{CompNo}
 use Rattle.yse_compile.specs.declared.compiler.CompNo.TheVariants.{Loop, Bits, Slots, Functions, Memory, Nodes}
 use Rattle.yse_compile.specs.Chosen.{FitsBy, FitsEither, HomesFit, IsDesign, IsUsed, UsesPlain, UsesBetter}
 use Rattle.yse_compile.specs.Compiled.{IsCompiled, IsOverfull, IsRight, of_homes, of_plan}
 use Rattle.yse_compile.specs.Designs.{IsAcyclic, DesignFits, LacksBits, LacksNodes, LacksSlots, LacksFunctions}
+use Rattle.yse_compile.specs.declared.{choose.Chosen.Chosen, compiler.Compiled.Compiled, compiler.CompNo.CompNo}
 use Rattle.yse_compile.proofs.FitLemmas.{FitsOrNot, LacksPlan}
 
 -- better homes are homes

@@ -1,39 +1,19 @@
 -- A design that fits by a choice of homes exists, with the claims of its image.
 use Rattle.std.proofs.Common.{◌≡◌, ◌∙◌, ◌⊎◌, ◌≤◌, inl, inr, Bool, true, false, ℕ, length, refl, sym, ap, subst, arith}
 use Rattle.limits.specs.declared.TheConstants.{MAX_SLOTS}
-use Rattle.machine_text.specs.declared.machine.Machine.{Machine}
-use Rattle.machine_text.specs.Machines.{IsValid as IsValidMachine}
-use Rattle.net_defs.specs.declared.homes.HomeChoice.{HomeChoice}
-use Rattle.net_defs.specs.declared.homes.HomeChoice.TheVariants.{Plain, Better}
-use Rattle.net_defs.specs.declared.netlist.Netlist.{Netlist}
-use Rattle.net_defs.specs.declared.timing.Timing.{Timing}
-use Rattle.node_defs.specs.declared.items.NodeNet.{NodeNet}
-use Rattle.node_defs.specs.Order.{AreItems}
-use Rattle.node_defs.specs.Same.{AreSameItems}
-use Rattle.node_defs.specs.WellFormed.{IsWellFormed}
-use Rattle.plan_defs.specs.declared.plan.Homes.{Homes}
-use Rattle.plan_defs.specs.declared.plan.Plan.{Plan}
-use Rattle.plan_defs.specs.declared.switch.Switch.{Switch}
-use Rattle.plan_defs.specs.Homes.{AreHomes}
-use Rattle.plan_defs.specs.Picks.{ArePicked, AreHoused}
+use Rattle.machine_text.specs.{declared.machine.Machine.Machine, Machines.IsValid as IsValidMachine}
+use Rattle.net_defs.specs.declared.homes.HomeChoice.{HomeChoice, TheVariants.Plain, TheVariants.Better}
+use Rattle.net_defs.specs.declared.{netlist.Netlist.Netlist, timing.Timing.Timing}
+use Rattle.node_defs.specs.{declared.items.NodeNet.NodeNet, Order.AreItems, Same.AreSameItems, WellFormed.IsWellFormed}
+use Rattle.plan_defs.specs.{declared.plan.Homes.Homes, declared.plan.Plan.Plan, declared.switch.Switch.Switch, Homes.AreHomes, Picks.ArePicked, Picks.AreHoused}
 use Rattle.plan_defs.specs.Switches.{IsSwitch}
-use Rattle.home_pick.specs.Better.{IsBetter, KeepsOthers, bound_of}
-use Rattle.home_pick.specs.Crossings.{crossings}
-use Rattle.home_pick.proofs.PassLemmas.{passes_way, start_way}
-use Rattle.home_pick.proofs.HomeLemmas.{homes_are}
-use Rattle.image_defs.specs.declared.image.Image.{Image}
-use Rattle.image_defs.specs.declared.file.Claims.{Claims}
-use Rattle.image_build.specs.Built.{IsBuilt}
-use Rattle.image_build.specs.Plans.{IsPlanned}
-use Rattle.yse_compile.specs.declared.choose.Chosen.{Chosen}
-use Rattle.yse_compile.specs.declared.compiler.Compiled.{Compiled}
+use Rattle.home_pick.specs.{Better.IsBetter, Better.KeepsOthers, Better.bound_of, Crossings.crossings}
+use Rattle.home_pick.proofs.{PassLemmas.passes_way, PassLemmas.start_way, HomeLemmas.homes_are}
+use Rattle.image_defs.specs.declared.{image.Image.Image, file.Claims.Claims}
+use Rattle.image_build.specs.{Built.IsBuilt, Plans.IsPlanned}
 use Rattle.yse_compile.specs.Chosen.{FitsBy, FitsEither, HomesFit, IsChosen, IsDesign, IsUsed}
-use Rattle.yse_compile.specs.Claims.{AreClaimsOf}
-use Rattle.yse_compile.specs.Designs.{IsAcyclic, DesignFits}
-use Rattle.yse_compile.proofs.lemmas.ChoiceLemmas.{better_are}
-use Rattle.yse_compile.proofs.FitLemmas.{fit_kept}
-use Rattle.yse_compile.proofs.lemmas.PlanExists.{tables_counted}
-use Rattle.yse_compile.proofs.SameBetter.{better_kept}
+use Rattle.yse_compile.specs.{declared.choose.Chosen.Chosen, declared.compiler.Compiled.Compiled, Claims.AreClaimsOf, Designs.IsAcyclic, Designs.DesignFits}
+use Rattle.yse_compile.proofs.{lemmas.ChoiceLemmas.better_are, FitLemmas.fit_kept, lemmas.PlanExists.tables_counted, SameBetter.better_kept}
 use Rattle.yse_compile.proofs.lemmas.SameHomes.{picked_kept}
 
 -- better homes keep what is no node

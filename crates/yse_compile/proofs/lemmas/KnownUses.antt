@@ -1,23 +1,15 @@
 -- Which ports read an item, which slots are ruled out, and which tables are used is known.
 use Rattle.std.proofs.Common.{◌≡◌, ◌∙◌, ◌⊎◌, inl, inr, ℕ, ◌<◌, ◌≤◌, List, refl, ap, subst}
-use Rattle.std.specs.Prelude.{Some, slice_get}
-use Rattle.std.specs.List.{Contains}
 use Rattle.std.proofs.lemmas.Bool.{cases_eq}
-use Rattle.node_defs.specs.declared.items.Tag.TheVariants.{This, Last}
-use Rattle.node_defs.specs.declared.items.Feed.{Feed}
-use Rattle.node_defs.specs.declared.items.Feed.TheVariants.{From, Fixed}
-use Rattle.node_defs.specs.declared.items.Feeds.{Feeds}
-use Rattle.node_defs.specs.declared.items.Item.{Item}
+use Rattle.std.specs.{Prelude.Some, Prelude.slice_get, List.Contains}
 use Rattle.node_defs.specs.declared.items.Item.TheVariants.{Input, BlockBit, Node, Latch}
-use Rattle.node_defs.specs.declared.items.NodeBlock.{NodeBlock}
-use Rattle.node_defs.specs.declared.items.NodeNet.{NodeNet}
 use Rattle.node_defs.specs.Takes.{FeedTakes, FeedAwaits, IsOneOf, Takes, Awaits, BlockTakes}
-use Rattle.node_defs.specs.WellFormed.{IsWellFormed}
-use Rattle.plan_defs.specs.declared.plan.Homes.{Homes}
+use Rattle.node_defs.specs.declared.items.{Tag.TheVariants.This, Tag.TheVariants.Last, Feed.Feed, Feed.TheVariants.From, Feed.TheVariants.Fixed, Feeds.Feeds}
+use Rattle.node_defs.specs.{declared.items.Item.Item, declared.items.NodeBlock.NodeBlock, declared.items.NodeNet.NodeNet, WellFormed.IsWellFormed}
 use Rattle.plan_defs.specs.Homes.{AreHomes, home_of, block_home, host_of, ports_of}
 use Rattle.plan_defs.specs.Readers.{ItemTakes, MemoryTakes, IsUser, IsReader}
 use Rattle.plan_defs.specs.Slots.{slot_of, IsTooEarly, IsHeld, IsHeard, IsBlocked}
-use Rattle.plan_defs.specs.Tables.{UsesTable}
+use Rattle.plan_defs.specs.{declared.plan.Homes.Homes, Tables.UsesTable}
 use Rattle.plan_defs.proofs.lemmas.PortLemmas.{reader_port}
 use Rattle.image_check.proofs.lemmas.KnownLemmas.{IsKnown, known_either, known_both, known_same, known_most, known_below, known_contained, known_member}
 

@@ -1,22 +1,12 @@
 -- There is a first-fit plan, and each port's tables are counted.
 use Rattle.std.proofs.Common.{◌≡◌, inl, inr, ℕ, zero, suc, ◌+◌, ◌<◌, List, [], ◌∷◌, ◌++◌, length, refl, sym, ap, subst, arith}
-use Rattle.std.proofs.Math.Numerals.{add-one}
-use Rattle.std.proofs.lemmas.List.{length-append}
-use Rattle.list_laws.proofs.Places.{read_before, read_last}
-use Rattle.list_laws.proofs.Ranges.{last_or}
-use Rattle.node_defs.specs.declared.items.Item.TheVariants.{Node}
-use Rattle.node_defs.specs.declared.items.NodeNet.{NodeNet}
-use Rattle.node_defs.specs.WellFormed.{IsWellFormed}
-use Rattle.plan_defs.specs.declared.plan.Homes.{Homes}
-use Rattle.plan_defs.specs.declared.plan.Plan.{Plan}
-use Rattle.plan_defs.specs.Homes.{AreHomes}
-use Rattle.plan_defs.specs.Lists.{IsLeastFree}
+use Rattle.std.proofs.{Math.Numerals.add-one, lemmas.List.length-append}
+use Rattle.list_laws.proofs.{Places.read_before, Places.read_last, Ranges.last_or}
+use Rattle.node_defs.specs.{declared.items.Item.TheVariants.Node, declared.items.NodeNet.NodeNet, WellFormed.IsWellFormed}
 use Rattle.plan_defs.specs.Slots.{slot_of, needed_of, IsBlocked, AreFirstFit, IsFirstFitPlan}
-use Rattle.plan_defs.specs.Tables.{UsesTable, UsesTables}
-use Rattle.plan_defs.proofs.ListLemmas.{listed_all}
-use Rattle.plan_defs.proofs.lemmas.PlanLemmas.{blocked_agree, least_same}
-use Rattle.yse_compile.proofs.KnownLemmas.{least_or_all, listed_to}
-use Rattle.yse_compile.proofs.lemmas.KnownUses.{blocked_known, table_known}
+use Rattle.plan_defs.specs.{declared.plan.Homes.Homes, declared.plan.Plan.Plan, Homes.AreHomes, Lists.IsLeastFree, Tables.UsesTable, Tables.UsesTables}
+use Rattle.plan_defs.proofs.{ListLemmas.listed_all, lemmas.PlanLemmas.blocked_agree, lemmas.PlanLemmas.least_same}
+use Rattle.yse_compile.proofs.{KnownLemmas.least_or_all, KnownLemmas.listed_to, lemmas.KnownUses.blocked_known, lemmas.KnownUses.table_known}
 
 -- the slots of the first n items are below some number
 pub slots_end : (slots : List ℕ) (n : ℕ) → (end : ℕ) × ((k : ℕ) → k < n → slot_of slots k < end)

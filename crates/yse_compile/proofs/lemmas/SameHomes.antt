@@ -5,18 +5,13 @@ use Rattle.std.specs.Prelude.{◌↔◌, Option, Some, None, slice_get}
 use Rattle.std.specs.List.{sum_by, range_with_len}
 use Rattle.list_laws.proofs.Ranges.{sum_alike}
 use Rattle.machine_text.specs.declared.machine.Machine.{Machine}
-use Rattle.node_defs.specs.declared.items.Item.{Item}
 use Rattle.node_defs.specs.declared.items.Item.TheVariants.{Input, BlockBit, Node, Latch}
-use Rattle.node_defs.specs.declared.items.NodeBlock.{NodeBlock}
-use Rattle.node_defs.specs.declared.items.NodeNet.{NodeNet}
-use Rattle.node_defs.specs.Order.{class_of}
-use Rattle.node_defs.specs.Same.{AreSameItems}
+use Rattle.node_defs.specs.{declared.items.Item.Item, declared.items.NodeBlock.NodeBlock, declared.items.NodeNet.NodeNet, Order.class_of, Same.AreSameItems}
 use Rattle.node_defs.specs.WellFormed.{IsComputed}
-use Rattle.plan_defs.specs.declared.plan.Homes.{Homes}
 use Rattle.plan_defs.specs.Picks.{bits_of, bits_before, bit_limit, bits_left, LacksRoom, AreHoused, node_limit, nodes_before, IsFull, IsInTurn, HasPickedHome, ArePicked, FindsNoPort}
+use Rattle.plan_defs.specs.declared.plan.Homes.{Homes}
 use Rattle.plan_defs.proofs.lemmas.PlanLemmas.{least_same}
-use Rattle.home_pick.proofs.FillLemmas.{bits_at}
-use Rattle.home_pick.proofs.lemmas.HousingLemmas.{homes_one}
+use Rattle.home_pick.proofs.{FillLemmas.bits_at, lemmas.HousingLemmas.homes_one}
 use Rattle.yse_compile.proofs.lemmas.SameItems.{carried, partner}
 
 -- ---- memories

@@ -1,13 +1,10 @@
 -- Two lists of the same items: what holds of an item of one holds of that item of the other.
 use Rattle.std.proofs.Common.{◌≡◌, ◌∙◌, ℕ, List, refl, ap, subst, arith}
-use Rattle.std.specs.Prelude.{Some, slice_get}
 use Rattle.std.proofs.lemmas.Option.{slice_get_within}
+use Rattle.std.specs.Prelude.{Some, slice_get}
 use Rattle.list_laws.proofs.Members.{member_at}
 use Rattle.func_table.specs.declared.table.Table.{Table}
-use Rattle.node_defs.specs.declared.items.Feeds.{Feeds}
-use Rattle.node_defs.specs.declared.items.Item.{Item}
-use Rattle.node_defs.specs.declared.items.Item.TheVariants.{Node}
-use Rattle.node_defs.specs.declared.items.NodeNet.{NodeNet}
+use Rattle.node_defs.specs.declared.items.{Feeds.Feeds, Item.Item, Item.TheVariants.Node, NodeNet.NodeNet}
 use Rattle.node_defs.specs.Same.{AreSameItem, AreSameItems}
 
 -- what doesn't ask for the number of a table holds of the same item of another list

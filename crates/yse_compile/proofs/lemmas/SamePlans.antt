@@ -1,14 +1,10 @@
 -- The first-fit plan of the same items is the same.
 use Rattle.std.proofs.Common.{◌≡◌, ◌∙◌, inl, inr, ℕ, List, subst, arith}
-use Rattle.std.specs.Prelude.{Some, slice_get}
-use Rattle.std.specs.List.{Contains}
-use Rattle.node_defs.specs.declared.items.NodeNet.{NodeNet}
-use Rattle.node_defs.specs.Same.{AreSameItems}
-use Rattle.node_defs.specs.Takes.{Takes, Awaits}
-use Rattle.plan_defs.specs.declared.plan.Homes.{Homes}
-use Rattle.plan_defs.specs.declared.plan.Plan.{Plan}
+use Rattle.std.specs.{Prelude.Some, Prelude.slice_get, List.Contains}
+use Rattle.node_defs.specs.{declared.items.NodeNet.NodeNet, Same.AreSameItems, Takes.Takes, Takes.Awaits}
 use Rattle.plan_defs.specs.Readers.{ItemTakes, MemoryTakes, IsUser, IsReader}
 use Rattle.plan_defs.specs.Slots.{slot_of, IsTooEarly, IsHeard, IsBlocked, IsFirstFitPlan}
+use Rattle.plan_defs.specs.declared.plan.{Homes.Homes, Plan.Plan}
 use Rattle.plan_defs.proofs.lemmas.PlanLemmas.{least_same}
 use Rattle.yse_compile.proofs.lemmas.SameItems.{carried, partner}
 

@@ -1,16 +1,10 @@
 -- The same items use as many different tables at a port.
 use Rattle.std.proofs.Common.{◌≡◌, ◌≢◌, ◌∙◌, ◌⊎◌, inl, inr, ℕ, ◌<◌, ◌≤◌, List, length, get_or, sym, ap, arith}
+use Rattle.std.proofs.lemmas.{Bool.cases_lt, List.Elements.Contains-get_or, List.Kept.AllPairs-from_increasing}
 use Rattle.std.specs.Prelude.{Some, slice_get}
-use Rattle.std.proofs.lemmas.Bool.{cases_lt}
-use Rattle.std.proofs.lemmas.List.Elements.{Contains-get_or}
-use Rattle.std.proofs.lemmas.List.Kept.{AllPairs-from_increasing}
 use Rattle.list_laws.proofs.Places.{place_of}
-use Rattle.node_defs.specs.declared.items.Item.TheVariants.{Node}
-use Rattle.node_defs.specs.declared.items.NodeNet.{NodeNet}
-use Rattle.node_defs.specs.Same.{AreSameItems}
-use Rattle.plan_defs.specs.declared.plan.Homes.{Homes}
-use Rattle.plan_defs.specs.Lists.{Lists}
-use Rattle.plan_defs.specs.Tables.{UsesTable, UsesTables}
+use Rattle.node_defs.specs.{declared.items.Item.TheVariants.Node, declared.items.NodeNet.NodeNet, Same.AreSameItems}
+use Rattle.plan_defs.specs.{declared.plan.Homes.Homes, Lists.Lists, Tables.UsesTable, Tables.UsesTables}
 use Rattle.plan_defs.proofs.lemmas.CountLemmas.{few_partners}
 use Rattle.yse_compile.proofs.lemmas.SameItems.{node_partner}
 

@@ -1,33 +1,18 @@
 -- There is a switch for items at their homes in the slots of their first-fit plan.
 use Rattle.std.proofs.Common.{◌≡◌, ◌∙◌, inl, inr, ℕ, zero, suc, ◌+◌, ◌<◌, List, [], ◌∷◌, ◌++◌, length, map, get_or, refl, sym, ap, subst, arith}
-use Rattle.std.specs.Prelude.{Some, slice_get}
-use Rattle.std.specs.List.{range_with_len}
-use Rattle.std.proofs.Math.Numerals.{add-one}
-use Rattle.std.proofs.lemmas.Bool.{cases_eq}
-use Rattle.std.proofs.lemmas.List.{get_or-map, length-map}
-use Rattle.std.proofs.lemmas.List.FromFn.{length-range_with_len, get_or-range_with_len}
-use Rattle.std.proofs.lemmas.Option.{slice_get_within, get_or_from_slice_get}
-use Rattle.node_defs.specs.declared.items.NodeNet.{NodeNet}
-use Rattle.node_defs.specs.WellFormed.{IsWellFormed}
-use Rattle.plan_defs.specs.declared.plan.Homes.{Homes}
-use Rattle.plan_defs.specs.declared.plan.Plan.{Plan}
-use Rattle.plan_defs.specs.declared.switch.Sending.{Sending}
-use Rattle.plan_defs.specs.declared.switch.Receipt.{Receipt}
-use Rattle.plan_defs.specs.declared.switch.PortLinks.{PortLinks}
-use Rattle.plan_defs.specs.declared.switch.Switch.{Switch}
-use Rattle.plan_defs.specs.Homes.{AreHomes, home_of, ports_of}
-use Rattle.plan_defs.specs.Readers.{IsReader, IsReaderList}
-use Rattle.plan_defs.specs.Slots.{slot_of, IsFirstFitPlan}
+use Rattle.std.proofs.{Math.Numerals.add-one, lemmas.Bool.cases_eq, lemmas.List.get_or-map, lemmas.List.length-map}
+use Rattle.std.proofs.lemmas.{List.FromFn.length-range_with_len, List.FromFn.get_or-range_with_len, Option.slice_get_within, Option.get_or_from_slice_get}
+use Rattle.std.specs.{Prelude.Some, Prelude.slice_get, List.range_with_len}
+use Rattle.node_defs.specs.{declared.items.NodeNet.NodeNet, WellFormed.IsWellFormed}
 use Rattle.plan_defs.specs.Switches.{IsSendingOf, IsSent, IsReceiptOf, AreSends, AreReceipts, IsSwitch}
-use Rattle.plan_defs.proofs.ListLemmas.{listed_all}
-use Rattle.plan_defs.proofs.lemmas.PlanLemmas.{one_at_home, one_received}
-use Rattle.plan_defs.proofs.lemmas.PortLemmas.{reader_port}
+use Rattle.plan_defs.specs.declared.{plan.Homes.Homes, plan.Plan.Plan, switch.Sending.Sending, switch.Receipt.Receipt, switch.PortLinks.PortLinks}
+use Rattle.plan_defs.specs.{declared.switch.Switch.Switch, Homes.AreHomes, Homes.home_of, Homes.ports_of, Readers.IsReader, Readers.IsReaderList}
+use Rattle.plan_defs.specs.Slots.{slot_of, IsFirstFitPlan}
+use Rattle.plan_defs.proofs.{ListLemmas.listed_all, lemmas.PlanLemmas.one_at_home, lemmas.PlanLemmas.one_received, lemmas.PortLemmas.reader_port}
 use Rattle.switch_set.specs.Links.{IsSlotList}
 use Rattle.switch_set.proofs.lemmas.ListLemmas.{listed_none, listed_same, listed_more}
 use Rattle.image_check.proofs.lemmas.KnownLemmas.{IsKnown, known_both, known_same, known_less, known_below}
-use Rattle.yse_compile.proofs.KnownLemmas.{listed_to}
-use Rattle.yse_compile.proofs.lemmas.KnownUses.{reader_known}
-use Rattle.yse_compile.proofs.lemmas.PlanExists.{slots_end}
+use Rattle.yse_compile.proofs.{KnownLemmas.listed_to, lemmas.KnownUses.reader_known, lemmas.PlanExists.slots_end}
 
 -- items of which no two have one slot have a list in slot order
 module _ {T : Type 0} (slot : T → ℕ) (IsOf : ℕ → T → Type 0) (IsIn : ℕ → Type 0) (slots : List ℕ) (count : ℕ)

@@ -2,24 +2,13 @@
 use Rattle.std.specs.Prelude.{◌≡◌, ◌≤◌, length}
 use Rattle.limits.specs.declared.TheConstants.{MAX_SLOTS}
 use Rattle.machine_text.specs.declared.machine.Machine.{Machine}
-use Rattle.net_defs.specs.declared.homes.HomeChoice.{HomeChoice}
-use Rattle.net_defs.specs.declared.homes.HomeChoice.TheVariants.{Plain, Better}
-use Rattle.node_defs.specs.declared.items.NodeNet.{NodeNet}
-use Rattle.node_defs.specs.WellFormed.{IsWellFormed}
-use Rattle.plan_defs.specs.declared.plan.Homes.{Homes}
-use Rattle.plan_defs.specs.Homes.{AreHomes}
-use Rattle.plan_defs.specs.Picks.{ArePicked, AreHoused as HaveBlockPorts}
-use Rattle.plan_defs.specs.Slots.{IsFirstFitPlan}
-use Rattle.plan_defs.specs.Tables.{Fits}
+use Rattle.net_defs.specs.declared.homes.HomeChoice.{HomeChoice, TheVariants.Plain, TheVariants.Better}
+use Rattle.node_defs.specs.{declared.items.NodeNet.NodeNet, WellFormed.IsWellFormed}
+use Rattle.plan_defs.specs.{declared.plan.Homes.Homes, Homes.AreHomes, Picks.ArePicked, Picks.AreHoused as HaveBlockPorts, Slots.IsFirstFitPlan, Tables.Fits}
 use Rattle.home_pick.specs.Better.{IsBetter}
 use Rattle.image_defs.specs.declared.image.Image.{Image}
-use Rattle.yse_compile.specs.declared.choose.Chosen.{Chosen}
-use Rattle.yse_compile.specs.declared.choose.Fitted.{Fitted}
-use Rattle.yse_compile.specs.declared.compiler.Compiled.{Compiled}
-use Rattle.yse_compile.specs.declared.passes.Housed.{Housed}
-use Rattle.yse_compile.specs.declared.passes.Planned.{Planned}
-use Rattle.yse_compile.specs.declared.passes.Routed.{Routed}
-use Rattle.yse_compile.specs.Chosen.{HomesFit, IsUsed}
+use Rattle.yse_compile.specs.declared.{choose.Chosen.Chosen, choose.Fitted.Fitted, compiler.Compiled.Compiled, passes.Housed.Housed, passes.Planned.Planned}
+use Rattle.yse_compile.specs.{declared.passes.Routed.Routed, Chosen.HomesFit, Chosen.IsUsed}
 
 -- homes of these items on the machine, the memories at the first array ports with room
 pub record AreHomesOn (nodes : NodeNet) (machine : Machine) (homes : Homes) : Type 0 where

@@ -1,8 +1,8 @@
 -- The outcome that the call came to, and the law of whole calls, say the rest.
 use Rattle.std.proofs.Common.{map}
 use Rattle.std.specs.String.{string_bytes}
-use Rattle.yse_top.proofs.CallLemmas.{few_begun}
 use Rattle.yse_top.proofs.CameLemmas.{absent_came, completes_came, fault_came, line_kept, output_kept, trace_came, visits_came, words_came, write_came}
+use Rattle.yse_top.proofs.CallLemmas.{few_begun}
 use Rattle.yse_top.proofs.yse.Goals as goal
 
 pub returns-clause-expected : goal.returns-clause-expected

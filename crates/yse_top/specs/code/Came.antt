@@ -3,10 +3,8 @@ use Rattle.std.specs.Prelude.{ℕ, Bool, List, Option}
 use Rattle.crew_run.specs.declared.gate.Gate as gate
 use Rattle.edge_io.specs.declared.counts.FileCounts.{FileCounts}
 use Rattle.refusals.specs.declared.status.Status.{Status}
-use Rattle.yse_commands.specs.Ends.{EndsAs}
-use Rattle.yse_commands.specs.Told.{TellsTurns, wrote_at}
-use Rattle.call_steps.specs.Outcome.{Outcome}
-use Rattle.call_steps.specs.Readings.{Reading, AreReadings}
+use Rattle.yse_commands.specs.{Ends.EndsAs, Told.TellsTurns, Told.wrote_at}
+use Rattle.call_steps.specs.{Outcome.Outcome, Readings.Reading, Readings.AreReadings}
 
 -- an outcome that a chain of checks expects of what was read, in which the call ended, and of whose turns the gates were
 -- told

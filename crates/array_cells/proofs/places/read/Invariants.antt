@@ -1,6 +1,5 @@
 use Rattle.std.proofs.Common.{◌≡◌, ◌<◌, ◌+◌, ℕ, get_or}
-use Rattle.logic_four.specs.declared.V4.TheVariants.{Undef}
-use Rattle.logic_four.specs.Packed.{packed_value}
+use Rattle.logic_four.specs.{declared.V4.TheVariants.Undef, Packed.packed_value}
 use Rattle.array_cells.proofs.places.read.Given as goal
 
 abbrev pub invariant-loop-i : goal.invariant-loop-i

@@ -1,6 +1,6 @@
 use Rattle.std.proofs.Common.{◌≡◌, ◌+◌, ◌<◌, ◌++◌, append-nil, [], ◌∷◌, List, ℕ, Bor, map, take, drop, length, get_or, sym, ap, ◌∙◌, refl, inl, inr, ⊎_elim, subst, arith}
-use Rattle.bench_read.proofs.Common.{err_from_is_err_and, twice_fault, Named, each_named, named_by}
 use Rattle.std.proofs.lemmas.List.{take_all, take_more, map_push, map-append, take-append-drop}
+use Rattle.bench_read.proofs.Common.{err_from_is_err_and, twice_fault, Named, each_named, named_by}
 use Rattle.bench_read.proofs.TwiceLemmas.{HasDriven, twice_nil, drive_more, drive_fault}
 use Rattle.bench_read.proofs.drivers.drive.Goals as goal
 

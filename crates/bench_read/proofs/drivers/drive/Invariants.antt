@@ -1,6 +1,5 @@
 use Rattle.std.proofs.Common.{map, take}
-use Rattle.bench_read.proofs.Common.{each_named, named_by}
-use Rattle.bench_read.proofs.TwiceLemmas.{HasDriven}
+use Rattle.bench_read.proofs.{Common.each_named, Common.named_by, TwiceLemmas.HasDriven}
 use Rattle.bench_read.proofs.drivers.drive.Given as goal
 
 abbrev pub invariant-loop-name : goal.invariant-loop-name

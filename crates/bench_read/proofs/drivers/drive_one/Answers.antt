@@ -1,6 +1,6 @@
 use Rattle.std.proofs.Common.{◌≡◌, false, map, sym, ◌∙◌, refl, bytes_eq}
-use Rattle.bench_read.proofs.Common.{list_any, map_push, DrivenName, named_by}
 use Rattle.std.proofs.lemmas.Bool.{not-true}
+use Rattle.bench_read.proofs.Common.{list_any, map_push, DrivenName, named_by}
 use Rattle.bench_read.proofs.TwiceLemmas.{names_same, repeat_none}
 use Rattle.bench_read.proofs.drivers.drive_one.Goals as goal
 

@@ -1,9 +1,7 @@
 use Rattle.std.proofs.Common.{rules, tests, Some, sym, ap, ◌∙◌, inl, inr, ⊎_elim, bytes_eq}
-use Rattle.bench_read.proofs.Common.{option_map, DrivenName}
-use Rattle.std.proofs.lemmas.Iterator.{YieldsList-from_slice}
-use Rattle.std.proofs.lemmas.Iterator.Search.{find_from_yields_List}
+use Rattle.std.proofs.lemmas.Iterator.{YieldsList-from_slice, Search.find_from_yields_List}
+use Rattle.bench_read.proofs.{Common.option_map, Common.DrivenName, TwiceLemmas.repeat_some}
 use Rattle.list_laws.proofs.Tests.{list_any-map, found_some}
-use Rattle.bench_read.proofs.TwiceLemmas.{repeat_some}
 use Rattle.bench_read.proofs.drivers.repeated.Goals as goal
 
 pub unreachable-requires : goal.unreachable-requires

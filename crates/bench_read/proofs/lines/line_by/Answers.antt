@@ -1,5 +1,4 @@
-use Rattle.std.proofs.Common.{arith}
-use Rattle.std.proofs.lemmas.List.{take-map, drop-map}
+use Rattle.std.proofs.{Common.arith, lemmas.List.take-map, lemmas.List.drop-map}
 use Rattle.bench_read.proofs.lines.line_by.Goals as goal
 
 pub returns-in-Gate : goal.returns-in-Gate

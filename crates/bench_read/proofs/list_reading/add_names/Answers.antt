@@ -1,5 +1,4 @@
-use Rattle.std.proofs.Common.{refl}
-use Rattle.std.proofs.lemmas.Option.{slice_get_read}
+use Rattle.std.proofs.{Common.refl, lemmas.Option.slice_get_read}
 use Rattle.bench_read.proofs.NameLemmas.{name_is_added}
 use Rattle.bench_read.proofs.list_reading.add_names.Goals as goal
 

@@ -1,6 +1,5 @@
 use Rattle.std.proofs.Common.{◌<◌, length, ◌∙◌, subst, inr, arith}
-use Rattle.std.proofs.lemmas.Result.{err_from_is_err_and}
-use Rattle.std.proofs.lemmas.List.{length_push}
+use Rattle.std.proofs.lemmas.{Result.err_from_is_err_and, List.length_push}
 use Rattle.std.specs.Prelude.{IfSome}
 use Rattle.net_defs.specs.Valid.{IsSignal}
 use Rattle.bench_read.proofs.OnceLemmas.{marked_none, marked_blank, marked_more, marked_fault, marked_all}

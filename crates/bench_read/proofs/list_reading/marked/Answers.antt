@@ -1,7 +1,7 @@
 use Rattle.std.proofs.Common.{◌++◌, ◌∷◌, [], List, ℕ, sym, ap, ◌∙◌}
 use Rattle.bench_read.proofs.MarkLemmas.{marked_set, marked_unset}
-use Rattle.bench_read.proofs.list_reading.marked.Goals as goal
 use Rattle.bench_read.proofs.list_reading.marked.Goals.{then-is_marked+in_ok-push, else-is_marked}
+use Rattle.bench_read.proofs.list_reading.marked.Goals as goal
 
 pub loop-place-preserved : goal.loop-place-preserved
 loop-place-preserved c = elim c.if-is_marked.branch [

@@ -1,6 +1,5 @@
 use Rattle.std.proofs.Common.{◌≡◌}
-use Rattle.std.specs.Prelude.{filter, slice_index_or, false}
-use Rattle.std.specs.List.{range_with_len}
+use Rattle.std.specs.{Prelude.filter, Prelude.slice_index_or, Prelude.false, List.range_with_len}
 use Rattle.bench_read.proofs.list_reading.marked.Given as goal
 
 abbrev pub invariant-loop-place : goal.invariant-loop-place

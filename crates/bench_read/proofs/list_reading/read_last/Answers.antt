@@ -2,10 +2,8 @@ use Rattle.std.proofs.Common.{sym, ap, ◌∙◌, ⊎_elim}
 use Rattle.std.proofs.lemmas.Result.{err_from_is_err_and}
 use Rattle.text_lines.specs.Lines.{parts_of}
 use Rattle.text_lines.proofs.lemmas.AnswerLemmas.{none_is_not_some}
-use Rattle.bench_read.specs.GateLists.{gates_of}
-use Rattle.bench_read.specs.code.GateLists.{marked}
-use Rattle.bench_read.proofs.ListLemmas.{reads_from_none, none_from_reads, one_list}
-use Rattle.bench_read.proofs.MarkLemmas.{marked_are, ascends_from_reads}
+use Rattle.bench_read.specs.{GateLists.gates_of, code.GateLists.marked}
+use Rattle.bench_read.proofs.{ListLemmas.reads_from_none, ListLemmas.none_from_reads, ListLemmas.one_list, MarkLemmas.marked_are, MarkLemmas.ascends_from_reads}
 use Rattle.bench_read.proofs.list_reading.read_last.Goals as goal
 
 pub returns : goal.returns

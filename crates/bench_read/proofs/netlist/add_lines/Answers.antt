@@ -1,9 +1,9 @@
 use Rattle.std.proofs.Common.{append-nil, length, sym, ap, ◌∙◌, subst, refl, arith, length-append}
 use Rattle.bench_read.proofs.Common.{lines_in, lines_at, AreOnce, length-map}
-use Rattle.bench_read.specs.code.Making.{seen}
-use Rattle.bench_read.specs.Netlists.{names_of, numbers, netlist_of, other_signals}
-use Rattle.bench_read.proofs.NumberLemmas.{names_length}
 use Rattle.bench_read.proofs.MakingLemmas.{few_memories, making_more, uses_split, named}
+use Rattle.bench_read.proofs.NumberLemmas.{names_length}
+use Rattle.bench_read.specs.Netlists.{names_of, numbers, netlist_of, other_signals}
+use Rattle.bench_read.specs.code.Making.{seen}
 use Rattle.bench_read.proofs.netlist.add_lines.Goals as goal
 
 pub lines-init : goal.lines-init

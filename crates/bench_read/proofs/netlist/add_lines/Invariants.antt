@@ -1,7 +1,6 @@
 use Rattle.std.proofs.Common.{◌≡◌}
-use Rattle.bench_read.proofs.Common.{lines_in, all_used, lines_at}
+use Rattle.bench_read.proofs.{Common.lines_in, Common.all_used, Common.lines_at, MakingLemmas.IsMaking}
 use Rattle.bench_read.specs.Netlists.{names_of, numbers}
-use Rattle.bench_read.proofs.MakingLemmas.{IsMaking}
 use Rattle.bench_read.proofs.netlist.add_lines.Given as goal
 
 abbrev pub invariant-lines : goal.invariant-lines

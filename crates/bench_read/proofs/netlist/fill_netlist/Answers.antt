@@ -1,7 +1,7 @@
 use Rattle.std.proofs.Common.{length, sym, ap, ◌∙◌, subst, arith, length-append}
 use Rattle.bench_read.proofs.Common.{flat_map, length-map, lines_in, AreOnce}
-use Rattle.bench_read.specs.Netlists.{input_names, names_of, numbers, input_signal}
 use Rattle.bench_read.proofs.NumberLemmas.{order_is, names_length}
+use Rattle.bench_read.specs.Netlists.{input_names, names_of, numbers, input_signal}
 use Rattle.bench_read.proofs.netlist.fill_netlist.Goals as goal
 
 pub signal_numbers-requires-clause-few : goal.signal_numbers-requires-clause-few

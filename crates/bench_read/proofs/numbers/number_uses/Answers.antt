@@ -1,9 +1,8 @@
 use Rattle.std.proofs.Common.{◌≡◌, ◌<◌, ◌≤◌, ℕ, List, Bor, [], map, take, length, get_or, sym, ap, ◌∙◌, refl, inl, inr, ⊎_elim, arith}
-use Rattle.bench_read.proofs.Common.{position, placed_in, lines_in, driven_names, used_names}
 use Rattle.std.proofs.lemmas.List.{take_all, map_push, take_more, get_or-map, length-map, length-take-le}
+use Rattle.bench_read.proofs.Common.{position, placed_in, lines_in, driven_names, used_names}
+use Rattle.bench_read.proofs.{NumberLemmas.found, NumberLemmas.lost, UseLemmas.first_undriven, UseLemmas.driven_more, UseLemmas.none_undriven}
 use Rattle.bench_read.specs.Netlists.{names_of, number, numbers}
-use Rattle.bench_read.proofs.NumberLemmas.{found, lost}
-use Rattle.bench_read.proofs.UseLemmas.{first_undriven, driven_more, none_undriven}
 use Rattle.bench_read.proofs.numbers.number_uses.Goals as goal
 
 -- a name of the draft

@@ -1,6 +1,4 @@
-use Rattle.bench_read.proofs.OnlyLemmas.{only_from}
-use Rattle.bench_read.proofs.PlainLemmas.{plain_from}
-use Rattle.bench_read.proofs.ReadLemmas.{reads_from, one_netlist, no_fault_from_reads}
+use Rattle.bench_read.proofs.{OnlyLemmas.only_from, PlainLemmas.plain_from, ReadLemmas.reads_from, ReadLemmas.one_netlist, ReadLemmas.no_fault_from_reads}
 use Rattle.bench_read.proofs.read.read_bench.Goals as goal
 
 pub returns : goal.returns

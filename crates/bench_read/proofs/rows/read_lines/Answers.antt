@@ -1,8 +1,6 @@
 use Rattle.std.proofs.Common.{[], ◌++◌, ◌∷◌, sym, ap, ◌∙◌, inl, inr, ⊎_elim}
 use Rattle.bench_read.proofs.Common.{err_from_is_err_and, first-zero, rows_in, rows_of, row_fault, rows_fault, placed_of}
-use Rattle.bench_read.proofs.FirstLemmas.{first_stays}
-use Rattle.bench_read.proofs.RowLemmas.{rows_none}
-use Rattle.bench_read.proofs.DraftLemmas.{seam, read_all}
+use Rattle.bench_read.proofs.{FirstLemmas.first_stays, RowLemmas.rows_none, DraftLemmas.seam, DraftLemmas.read_all}
 use Rattle.bench_read.proofs.rows.read_lines.Goals as goal
 
 pub lines-init : goal.lines-init

@@ -1,7 +1,5 @@
 use Rattle.std.proofs.Common.{◌+◌, inl, inr, ap, refl}
-use Rattle.bench_read.proofs.Common.{length-map, err_from_is_err_and, row_of}
-use Rattle.bench_read.proofs.RowLemmas.{rows_push}
-use Rattle.bench_read.proofs.DraftLemmas.{fault_is, stores_more}
+use Rattle.bench_read.proofs.{Common.length-map, Common.err_from_is_err_and, Common.row_of, RowLemmas.rows_push, DraftLemmas.fault_is, DraftLemmas.stores_more}
 use Rattle.bench_read.proofs.rows.read_row.Goals as goal
 
 pub returns-in_err-act : goal.returns-in_err-act

@@ -1,6 +1,6 @@
 use Rattle.std.proofs.lemmas.Result.{MatchResult-weaker, err_from_is_err_and}
-use Rattle.bench_read.proofs.OnlyLemmas.{only_from}
 use Rattle.bench_read.proofs.StuckLemmas.{reads_from_none, none_from_reads, one_list, faults_from_reads}
+use Rattle.bench_read.proofs.OnlyLemmas.{only_from}
 use Rattle.bench_read.proofs.stuck_reading.read_faults.Goals as goal
 
 pub returns-in_err-names-clause-only : goal.returns-in_err-names-clause-only

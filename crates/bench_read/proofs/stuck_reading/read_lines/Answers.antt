@@ -1,11 +1,8 @@
 use Rattle.std.proofs.Common.{◌+◌, ◌++◌, ◌∷◌, [], ◌*◌, ◌≡◌, List, false, length, sym, ap, ◌∙◌, subst, inr, arith, append-nil, replicate}
-use Rattle.std.proofs.lemmas.Result.{err_from_is_err_and}
-use Rattle.std.proofs.lemmas.List.{length_push}
+use Rattle.std.proofs.lemmas.{Result.err_from_is_err_and, List.length_push}
 use Rattle.std.specs.Prelude.{IfSome, Some, None}
-use Rattle.net_defs.specs.declared.faults.Fault.{Fault}
-use Rattle.net_defs.specs.Valid.{IsFault}
-use Rattle.bench_read.specs.StuckLists.{number_of, stuck_in}
-use Rattle.bench_read.specs.code.StuckLists.{AreStuckMarks}
+use Rattle.net_defs.specs.{declared.faults.Fault.Fault, Valid.IsFault}
+use Rattle.bench_read.specs.{StuckLists.number_of, StuckLists.stuck_in, code.StuckLists.AreStuckMarks}
 use Rattle.bench_read.proofs.OnceLemmas.{all_passed, marked_none, marked_blank, marked_more, marked_fault, marked_all, no_marks_of, passed_more}
 use Rattle.bench_read.proofs.StuckLemmas.{number_within}
 use Rattle.bench_read.proofs.stuck_reading.read_lines.Goals as goal

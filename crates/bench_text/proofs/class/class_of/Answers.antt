@@ -1,11 +1,8 @@
 use Rattle.std.proofs.Common.{◌≡◌, map, get_or, refl, ap, ◌∙◌, arith}
 use Rattle.std.proofs.lemmas.List.FromFn.{get_or-map-range_with_len}
 use Rattle.std.specs.List.{range_with_len}
-use Rattle.text_lines.specs.Bytes.{is_visible, is_blank}
-use Rattle.text_lines.specs.Names.{is_mark, is_name_byte}
-use Rattle.bench_text.specs.declared.class.Class.TheVariants.{Name}
-use Rattle.bench_text.specs.declared.class.TheConstants.{CLASSES}
-use Rattle.bench_text.specs.Bytes.{sign_of, class_of}
+use Rattle.text_lines.specs.{Bytes.is_visible, Bytes.is_blank, Names.is_mark, Names.is_name_byte}
+use Rattle.bench_text.specs.{declared.class.Class.TheVariants.Name, declared.class.TheConstants.CLASSES, Bytes.sign_of, Bytes.class_of}
 use Rattle.bench_text.proofs.class.class_of.Goals as goal
 
 -- the table has the class of each byte

@@ -1,8 +1,7 @@
 use Rattle.std.proofs.Common.{sym, ◌∙◌, append_assoc, refl}
 use Rattle.std.proofs.lemmas.List.{map-append}
-use Rattle.bench_text.specs.Rows.{pieces_of}
+use Rattle.bench_text.specs.{Rows.pieces_of, Forms.Memory}
 use Rattle.bench_text.proofs.lemmas.SpellingLemmas.{memory_read}
-use Rattle.bench_text.specs.Forms.{Memory}
 use Rattle.bench_text.proofs.form.memory_behind.Goals as goal
 
 pub returns-then-is_closed : goal.returns-then-is_closed

@@ -1,8 +1,6 @@
-use Rattle.std.proofs.lemmas.Option.{none-some}
 use Rattle.std.proofs.Common.{◌≡◌, ◌≢◌, ◌∙◌, Option, None, Some, ap, refl, sym}
-use Rattle.bench_text.specs.Forms.{Form}
-use Rattle.bench_text.specs.Spelling.{spelled}
-use Rattle.bench_text.specs.Decoding.{form_of}
+use Rattle.std.proofs.lemmas.Option.{none-some}
+use Rattle.bench_text.specs.{Forms.Form, Spelling.spelled, Decoding.form_of}
 use Rattle.bench_text.proofs.lemmas.SpellingLemmas.{form_again, form_spelled}
 use Rattle.bench_text.proofs.law.forms_are_spelled.Goals as goal
 

@@ -1,6 +1,5 @@
 use Rattle.std.proofs.Common.{sym, arith, ◌∙◌, []}
-use Rattle.std.proofs.lemmas.Bool.{cond-true, cond-false}
-use Rattle.std.proofs.lemmas.List.{nil_from_length}
+use Rattle.std.proofs.lemmas.{Bool.cond-true, Bool.cond-false, List.nil_from_length}
 use Rattle.bench_text.specs.Bytes.{sign_of}
 use Rattle.bench_text.proofs.PartLemmas.{sign_taken}
 use Rattle.bench_text.proofs.piece.take_sign.Goals as goal

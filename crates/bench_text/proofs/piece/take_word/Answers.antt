@@ -1,5 +1,5 @@
-use Rattle.std.proofs.Common.{sym, ◌∙◌}
 use Rattle.std.proofs.lemmas.Bool.{cond-true, cond-false, eq-eqb, ne_eqb}
+use Rattle.std.proofs.Common.{sym, ◌∙◌}
 use Rattle.bench_text.proofs.PartLemmas.{word_taken}
 use Rattle.bench_text.proofs.piece.take_word.Goals as goal
 

@@ -1,7 +1,6 @@
 use Rattle.std.proofs.Common.{map, ap, ◌∙◌, ◌∷◌, [], arith}
 use Rattle.std.proofs.lemmas.List.{map-append}
-use Rattle.bench_text.proofs.PartLemmas.{pieces_fit}
-use Rattle.bench_text.proofs.lemmas.SpellingLemmas.{taken_first, taken_one}
+use Rattle.bench_text.proofs.{PartLemmas.pieces_fit, lemmas.SpellingLemmas.taken_first, lemmas.SpellingLemmas.taken_one}
 use Rattle.bench_text.proofs.taking.take_names.Goals as goal
 
 pub commas-init : goal.commas-init

@@ -2,20 +2,12 @@
 use Rattle.std.proofs.Common.{◌≡◌, ◌∙◌, List, Option, Bool, ℕ, Result, Ok, Err, ap, sym}
 use Rattle.std.specs.Prelude.{IfOk, IfErr, OnOk}
 use Rattle.edge_io.specs.declared.counts.FileCounts.{FileCounts}
-use Rattle.image_defs.specs.declared.file.ImageFile.{ImageFile}
-use Rattle.image_defs.specs.declared.image.Image.{Image}
-use Rattle.net_defs.specs.declared.netlist.Netlist.{Netlist}
-use Rattle.net_defs.specs.declared.timing.Timing.{Timing}
+use Rattle.image_defs.specs.declared.{file.ImageFile.ImageFile, image.Image.Image}
+use Rattle.net_defs.specs.declared.{netlist.Netlist.Netlist, timing.Timing.Timing}
 use Rattle.refusals.specs.declared.refusal.Refusal.{Refusal}
-use Rattle.call_steps.specs.declared.checks.Built.{Built}
-use Rattle.call_steps.specs.Checks.{HasNoLoop, Refuses}
-use Rattle.call_steps.specs.Files.{AfterImage, AfterMatch}
-use Rattle.call_steps.specs.Images.{IsAccepted, IsImageFileOf}
-use Rattle.call_steps.specs.Outcome.{Outcome}
-use Rattle.call_steps.specs.Passing.{Continuation, Passes}
-use Rattle.call_steps.specs.code.Passing.{AfterImageFile}
-use Rattle.call_steps.specs.Readings.{Reading}
-use Rattle.call_steps.specs.Refused.{refused_of}
+use Rattle.call_steps.specs.{declared.checks.Built.Built, Checks.HasNoLoop, Checks.Refuses, Files.AfterImage, Files.AfterMatch}
+use Rattle.call_steps.specs.{Images.IsAccepted, Images.IsImageFileOf, Outcome.Outcome, Passing.Continuation, Passing.Passes, code.Passing.AfterImageFile}
+use Rattle.call_steps.specs.{Readings.Reading, Refused.refused_of}
 use Rattle.call_steps.proofs.PassingLemmas.{both_pass, check_passes, check_stops, first_stops, no_value, stopped, value_passes}
 use Rattle.call_steps.proofs.lemmas.WeakerLemmas.{Implies, checked_so}
 use Rattle.call_steps.proofs.designs.built_in.Goals as goal

@@ -3,12 +3,8 @@ use Rattle.std.proofs.Common.{List, refl, subst, inl, inr}
 use Rattle.cmd_words.specs.declared.command.RunWords.{RunWords}
 use Rattle.machine_text.specs.declared.machine.Machine.{Machine}
 use Rattle.yse_compile.specs.Compiled.{IsOverfull}
-use Rattle.call_steps.specs.declared.reading.Timed.{Timed}
-use Rattle.call_steps.specs.Checks.{After, HasNoLoop, HasRoom}
-use Rattle.call_steps.specs.Designs.{Placed}
-use Rattle.call_steps.specs.Outcome.{Outcome}
-use Rattle.call_steps.specs.Passing.{AfterTimed, Continuation, placed}
-use Rattle.call_steps.specs.Readings.{Reading}
+use Rattle.call_steps.specs.{declared.reading.Timed.Timed, Checks.After, Checks.HasNoLoop, Checks.HasRoom, Designs.Placed, Outcome.Outcome}
+use Rattle.call_steps.specs.{Passing.AfterTimed, Passing.Continuation, Passing.placed, Readings.Reading}
 use Rattle.call_steps.proofs.PassingLemmas.{both_pass, check_passes, check_stops, first_stops, no_value, value_passes}
 use Rattle.call_steps.proofs.lemmas.WeakerLemmas.{timed_so}
 use Rattle.call_steps.proofs.designs.place.Goals as goal

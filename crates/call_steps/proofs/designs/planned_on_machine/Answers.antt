@@ -1,9 +1,7 @@
 -- The machine, and then the design on it.
 use Rattle.std.proofs.Common.{◌∙◌}
-use Rattle.call_steps.specs.Passing.{AfterPlacedOn}
-use Rattle.call_steps.specs.Files.{AfterMachine}
-use Rattle.call_steps.proofs.PassingLemmas.{both_pass, first_stops, no_value}
-use Rattle.call_steps.proofs.lemmas.WeakerLemmas.{machine_so}
+use Rattle.call_steps.specs.{Passing.AfterPlacedOn, Files.AfterMachine}
+use Rattle.call_steps.proofs.{PassingLemmas.both_pass, PassingLemmas.first_stops, PassingLemmas.no_value, lemmas.WeakerLemmas.machine_so}
 use Rattle.call_steps.proofs.designs.planned_on_machine.Goals as goal
 
 pub returns : goal.returns

@@ -2,10 +2,7 @@
 use Rattle.std.proofs.Common.{◌∙◌, List, refl}
 use Rattle.cmd_words.specs.declared.command.RunWords.{RunWords}
 use Rattle.net_defs.specs.declared.stimulus.Stimulus.{Stimulus}
-use Rattle.call_steps.specs.Designs.{Placed, Prepared}
-use Rattle.call_steps.specs.Files.{AfterStimulus}
-use Rattle.call_steps.specs.Outcome.{Outcome}
-use Rattle.call_steps.specs.Passing.{AfterPlaced, Continuation}
+use Rattle.call_steps.specs.{Designs.Placed, Designs.Prepared, Files.AfterStimulus, Outcome.Outcome, Passing.AfterPlaced, Passing.Continuation}
 use Rattle.call_steps.specs.Readings.{Reading}
 use Rattle.call_steps.proofs.PassingLemmas.{both_pass, first_stops, no_value, value_passes}
 use Rattle.call_steps.proofs.lemmas.WeakerLemmas.{placed_so, stimulus_so}

@@ -1,12 +1,8 @@
 -- The netlist, and then the image.
 use Rattle.std.proofs.Common.{◌∙◌, List, ℕ, refl}
 use Rattle.net_defs.specs.declared.timing.Timing.{Timing}
-use Rattle.call_steps.specs.declared.checks.Built.{Built}
-use Rattle.call_steps.specs.declared.designs.Runnable.{Runnable}
-use Rattle.call_steps.specs.declared.reading.Timed.{Timed}
-use Rattle.call_steps.specs.Outcome.{Outcome}
-use Rattle.call_steps.specs.Passing.{AfterBuilt, AfterTimed, Continuation}
-use Rattle.call_steps.specs.Readings.{Reading}
+use Rattle.call_steps.specs.{declared.checks.Built.Built, declared.designs.Runnable.Runnable, declared.reading.Timed.Timed, Outcome.Outcome}
+use Rattle.call_steps.specs.{Passing.AfterBuilt, Passing.AfterTimed, Passing.Continuation, Readings.Reading}
 use Rattle.call_steps.proofs.PassingLemmas.{both_pass, first_stops, no_value, value_passes}
 use Rattle.call_steps.proofs.lemmas.WeakerLemmas.{built_so, run_then, timed_so}
 use Rattle.call_steps.proofs.designs.runnable_in.Goals as goal

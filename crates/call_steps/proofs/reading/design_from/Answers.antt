@@ -1,12 +1,8 @@
 -- The netlist, and then its timing.
 use Rattle.std.proofs.Common.{◌∙◌, List, refl}
 use Rattle.cmd_words.specs.declared.command.RunWords.{RunWords}
-use Rattle.net_defs.specs.declared.netlist.Netlist.{Netlist}
-use Rattle.net_defs.specs.declared.timing.Timing.{Timing}
-use Rattle.call_steps.specs.declared.reading.Timed.{Timed}
-use Rattle.call_steps.specs.Outcome.{Outcome}
-use Rattle.call_steps.specs.Passing.{AfterNetlistFile, Continuation}
-use Rattle.call_steps.specs.Readings.{Reading}
+use Rattle.net_defs.specs.declared.{netlist.Netlist.Netlist, timing.Timing.Timing}
+use Rattle.call_steps.specs.{declared.reading.Timed.Timed, Outcome.Outcome, Passing.AfterNetlistFile, Passing.Continuation, Readings.Reading}
 use Rattle.call_steps.specs.Files.{AfterList, AfterNetlist}
 use Rattle.call_steps.proofs.PassingLemmas.{both_pass, first_stops, no_value, value_passes}
 use Rattle.call_steps.proofs.lemmas.WeakerLemmas.{list_so, netlist_file_so}

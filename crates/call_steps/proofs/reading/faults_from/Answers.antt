@@ -1,15 +1,9 @@
 -- Without a file there is no list, and else the one that was read.
 use Rattle.std.proofs.Common.{refl, List, ℕ, Option, Some, None, Result, Ok, Err}
-use Rattle.net_defs.specs.declared.faults.Fault.{Fault}
-use Rattle.net_defs.specs.declared.netlist.Netlist.{Netlist}
-use Rattle.call_steps.specs.Checks.{IsFaultListOf}
-use Rattle.call_steps.specs.Outcome.{Outcome}
-use Rattle.call_steps.specs.Passing.{Continuation}
-use Rattle.call_steps.specs.Readings.{Reading}
-use Rattle.call_steps.specs.Files.{AfterFaultList}
+use Rattle.net_defs.specs.declared.{faults.Fault.Fault, netlist.Netlist.Netlist}
+use Rattle.call_steps.specs.{Checks.IsFaultListOf, Outcome.Outcome, Passing.Continuation, Readings.Reading, Files.AfterFaultList}
 use Rattle.call_steps.proofs.PassingLemmas.{both_pass, file_passes, file_stops, first_stops, no_value, value_passes}
-use Rattle.call_steps.proofs.RefusedLemmas.{faults_refused}
-use Rattle.call_steps.proofs.lemmas.WeakerLemmas.{checked_so}
+use Rattle.call_steps.proofs.{RefusedLemmas.faults_refused, lemmas.WeakerLemmas.checked_so}
 use Rattle.call_steps.proofs.reading.faults_from.Goals as goal
 
 -- what comes after these faults

@@ -1,6 +1,5 @@
 use Rattle.call_steps.specs.Images.{IsImageFileOf}
-use Rattle.call_steps.proofs.PassingLemmas.{file_passes, file_stops, no_value}
-use Rattle.call_steps.proofs.RefusedLemmas.{image_refused}
+use Rattle.call_steps.proofs.{PassingLemmas.file_passes, PassingLemmas.file_stops, PassingLemmas.no_value, RefusedLemmas.image_refused}
 use Rattle.call_steps.proofs.reading.image_in.Goals as goal
 
 pub returns-in_err-text : goal.returns-in_err-text

@@ -1,7 +1,5 @@
-use Rattle.call_steps.specs.Checks.{IsLanesOf}
-use Rattle.call_steps.specs.Files.{AfterLanes}
-use Rattle.call_steps.proofs.PassingLemmas.{file_passes, file_stops, no_value}
-use Rattle.call_steps.proofs.RefusedLemmas.{lanes_refused}
+use Rattle.call_steps.specs.{Checks.IsLanesOf, Files.AfterLanes}
+use Rattle.call_steps.proofs.{PassingLemmas.file_passes, PassingLemmas.file_stops, PassingLemmas.no_value, RefusedLemmas.lanes_refused}
 use Rattle.call_steps.proofs.reading.lanes_in.Goals as goal
 
 pub returns-in_err-text : goal.returns-in_err-text

@@ -1,8 +1,7 @@
 -- Without a file it is the default machine, and else that of its text.
 use Rattle.std.proofs.Common.{sym}
 use Rattle.machine_text.specs.Machines.{default_machine}
-use Rattle.call_steps.specs.Checks.{IsMachineOf}
-use Rattle.call_steps.specs.Files.{AfterMachine}
+use Rattle.call_steps.specs.{Checks.IsMachineOf, Files.AfterMachine}
 use Rattle.call_steps.proofs.PassingLemmas.{file_passes, file_stops, no_value, value_passes}
 use Rattle.call_steps.proofs.RefusedLemmas.{machine_refused}
 use Rattle.call_steps.proofs.reading.machine_from.Goals as goal

@@ -1,6 +1,5 @@
 use Rattle.call_steps.specs.Checks.{IsNetlistOf}
-use Rattle.call_steps.proofs.PassingLemmas.{file_passes, file_stops, no_value}
-use Rattle.call_steps.proofs.RefusedLemmas.{netlist_refused}
+use Rattle.call_steps.proofs.{PassingLemmas.file_passes, PassingLemmas.file_stops, PassingLemmas.no_value, RefusedLemmas.netlist_refused}
 use Rattle.call_steps.proofs.reading.netlist_in.Goals as goal
 
 pub returns-in_err-text : goal.returns-in_err-text

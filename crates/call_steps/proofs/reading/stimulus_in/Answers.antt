@@ -1,7 +1,5 @@
-use Rattle.call_steps.specs.Checks.{IsStimulusOf}
-use Rattle.call_steps.specs.Files.{AfterStimulus}
-use Rattle.call_steps.proofs.PassingLemmas.{file_passes, file_stops, no_value}
-use Rattle.call_steps.proofs.RefusedLemmas.{stimulus_refused}
+use Rattle.call_steps.specs.{Checks.IsStimulusOf, Files.AfterStimulus}
+use Rattle.call_steps.proofs.{PassingLemmas.file_passes, PassingLemmas.file_stops, PassingLemmas.no_value, RefusedLemmas.stimulus_refused}
 use Rattle.call_steps.proofs.reading.stimulus_in.Goals as goal
 
 pub returns-in_err-text : goal.returns-in_err-text

@@ -1,15 +1,9 @@
 -- Without a file of a list the timing is that of the words, and else the one with the list that was read.
 use Rattle.std.proofs.Common.{◌≡◌, ◌∙◌, sym, ap, refl, List, ℕ, Result, Ok, Err}
-use Rattle.net_defs.specs.declared.timing.Timing.{Timing}
-use Rattle.net_defs.specs.declared.netlist.Netlist.{Netlist}
-use Rattle.call_steps.specs.Checks.{IsListOf, listing}
-use Rattle.call_steps.specs.Outcome.{Outcome}
-use Rattle.call_steps.specs.Passing.{Continuation}
-use Rattle.call_steps.specs.Readings.{Reading}
-use Rattle.call_steps.specs.Files.{AfterList}
+use Rattle.net_defs.specs.declared.{timing.Timing.Timing, netlist.Netlist.Netlist}
+use Rattle.call_steps.specs.{Checks.IsListOf, Checks.listing, Outcome.Outcome, Passing.Continuation, Readings.Reading, Files.AfterList}
 use Rattle.call_steps.proofs.PassingLemmas.{both_pass, file_passes, file_stops, first_stops, no_value, value_passes}
-use Rattle.call_steps.proofs.RefusedLemmas.{list_refused}
-use Rattle.call_steps.proofs.lemmas.WeakerLemmas.{checked_so}
+use Rattle.call_steps.proofs.{RefusedLemmas.list_refused, lemmas.WeakerLemmas.checked_so}
 use Rattle.call_steps.proofs.reading.timing_from.Goals as goal
 
 -- what comes after the timing with these gates listed

@@ -1,7 +1,5 @@
 use Rattle.std.proofs.Common.{Some, ap}
-use Rattle.clap.specs.Walk.{Rule}
-use Rattle.clap.specs.declared.builder.action.ArgAction.TheVariants.{Set}
-use Rattle.clap.specs.declared.builder.value_parser.ValueParser.TheVariants.{NonEmptyString}
+use Rattle.clap.specs.{Walk.Rule, declared.builder.action.ArgAction.TheVariants.Set, declared.builder.value_parser.ValueParser.TheVariants.NonEmptyString}
 use Rattle.cmd_words.proofs.parsing.option.Goals as goal
 
 pub returns-clause-rule : goal.returns-clause-rule

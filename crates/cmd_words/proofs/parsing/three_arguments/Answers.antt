@@ -1,6 +1,5 @@
 use Rattle.std.proofs.Common.{◌≡◌, ◌∙◌, ◌≤◌, ◌<◌, List, [], ◌∷◌, Some, length, get_or, map, unwrap_or, refl, ap, arith}
-use Rattle.cmd_words.specs.Arguments.{Word}
-use Rattle.cmd_words.specs.code.Parses.{three_of}
+use Rattle.cmd_words.specs.{Arguments.Word, code.Parses.three_of}
 use Rattle.cmd_words.proofs.parsing.three_arguments.Goals as goal
 
 three : {X : Type 0} (f : X → Word) (xs : List X) (d : X) → 3 ≤ length xs → length xs < 4 → Some (f (get_or xs 0 d), f (get_or xs 1 d), f (get_or xs 2 d)) ≡ three_of (map f xs)

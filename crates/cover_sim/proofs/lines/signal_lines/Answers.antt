@@ -1,8 +1,7 @@
 -- Each line is that of its signal.
 use Rattle.std.proofs.Common.{◌≡◌, ◌∙◌, ap, ap₂, get_or, false, arith, ◌++◌, ◌∷◌, []}
 use Rattle.net_defs.specs.declared.netlist.Signal.{Signal}
-use Rattle.cover_sim.specs.declared.marks.Marks.{Marks}
-use Rattle.cover_sim.specs.Lines.{signal_line}
+use Rattle.cover_sim.specs.{declared.marks.Marks.Marks, Lines.signal_line}
 use Rattle.cover_sim.proofs.LineLemmas.{one_more, all_made}
 use Rattle.cover_sim.proofs.lines.signal_lines.Goals as goal
 

@@ -1,6 +1,5 @@
 use Rattle.std.proofs.Common.{◌≡◌, take}
-use Rattle.std.specs.Prelude.{map}
-use Rattle.std.specs.List.{zip}
+use Rattle.std.specs.{Prelude.map, List.zip}
 use Rattle.cover_sim.specs.Lines.{signal_line}
 use Rattle.cover_sim.proofs.lines.signal_lines.Given as goal
 

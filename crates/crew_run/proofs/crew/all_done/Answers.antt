@@ -1,5 +1,4 @@
-use Rattle.std.proofs.Common.{arith, refl}
-use Rattle.std.proofs.lemmas.Option.{slice_get_read, slice_get_within}
+use Rattle.std.proofs.{Common.arith, Common.refl, lemmas.Option.slice_get_read, lemmas.Option.slice_get_within}
 use Rattle.crew_run.specs.code.Phases.{AreDone}
 use Rattle.crew_run.proofs.CrewLemmas.{below_more}
 use Rattle.crew_run.proofs.crew.all_done.Goals as goal

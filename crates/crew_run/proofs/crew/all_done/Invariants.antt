@@ -1,6 +1,5 @@
 use Rattle.std.specs.Prelude.{Some, slice_get, ℕ, ◌<◌, ◌≡◌}
-use Rattle.crew_run.specs.declared.worker.Worker.{Worker}
-use Rattle.crew_run.specs.code.Phases.{AreDone}
+use Rattle.crew_run.specs.{declared.worker.Worker.Worker, code.Phases.AreDone}
 use Rattle.crew_run.proofs.crew.all_done.Given as goal
 
 abbrev pub invariant-workers : goal.invariant-workers

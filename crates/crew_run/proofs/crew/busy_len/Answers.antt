@@ -1,6 +1,5 @@
 use Rattle.std.proofs.Common.{[], arith, inl, inr, slice_get, Some, subst, ◌≡◌}
-use Rattle.std.proofs.lemmas.Bool.{cases_lt}
-use Rattle.std.proofs.lemmas.Option.{get_or_from_slice_get, slice_get_within}
+use Rattle.std.proofs.lemmas.{Bool.cases_lt, Option.get_or_from_slice_get, Option.slice_get_within}
 use Rattle.crew_run.specs.declared.worker.Worker.{Worker}
 use Rattle.crew_run.proofs.crew.busy_len.Goals as goal
 use Rattle.crew_run.proofs.crew.busy_len.Goals.{then-not-is_empty, else-not-is_empty}

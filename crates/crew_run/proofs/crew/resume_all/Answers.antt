@@ -1,5 +1,4 @@
-use Rattle.std.proofs.Common.{refl}
-use Rattle.std.proofs.lemmas.Option.{slice_get_read}
+use Rattle.std.proofs.{Common.refl, lemmas.Option.slice_get_read}
 use Rattle.crew_run.specs.code.Phases.{IsResumed}
 use Rattle.crew_run.proofs.CrewLemmas.{each_place}
 use Rattle.crew_run.proofs.crew.resume_all.Goals as goal

@@ -1,6 +1,5 @@
 use Rattle.std.proofs.Common.{◌≡◌, ◌++◌, ◌∙◌, length, take, drop, slice_get, Some, arith, subst, take-append-drop}
-use Rattle.std.proofs.lemmas.List.{length-take-le}
-use Rattle.std.proofs.lemmas.Option.{slice_get_within}
+use Rattle.std.proofs.lemmas.{List.length-take-le, Option.slice_get_within}
 use Rattle.list_laws.proofs.Places.{at_front}
 use Rattle.crew_run.specs.Crews.{AllHaveRun}
 use Rattle.crew_run.proofs.CrewLemmas.{rest_has_run}

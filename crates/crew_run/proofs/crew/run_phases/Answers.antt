@@ -1,5 +1,4 @@
-use Rattle.std.proofs.Common.{◌∙◌, sym}
-use Rattle.std.proofs.lemmas.Bool.{eqb-true}
+use Rattle.std.proofs.{Common.◌∙◌, Common.sym, lemmas.Bool.eqb-true}
 use Rattle.crew_run.proofs.CrewLemmas.{all_begun_resumed, all_can_resume, all_have_run, none_have_run}
 use Rattle.crew_run.proofs.crew.run_phases.Goals as goal
 

@@ -1,8 +1,6 @@
-use Rattle.std.proofs.Common.{subst, sym}
-use Rattle.std.proofs.lemmas.Result.{on_ok_weaker}
+use Rattle.std.proofs.{Common.subst, Common.sym, lemmas.Result.on_ok_weaker}
 use Rattle.list_laws.proofs.Members.{each_push}
-use Rattle.crew_run.specs.Crews.{AllCanRun, AreReady, CanRun}
-use Rattle.crew_run.specs.Lending.{AllAreReady}
+use Rattle.crew_run.specs.{Crews.AllCanRun, Crews.AreReady, Crews.CanRun, Lending.AllAreReady}
 use Rattle.crew_run.proofs.lend.add.Goals as goal
 
 pub returns-clause-can : goal.returns-clause-can

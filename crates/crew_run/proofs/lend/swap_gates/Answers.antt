@@ -1,6 +1,6 @@
 use Rattle.std.proofs.Common.{length, subst, ◌<◌, ◌≡◌, arith}
-use borrow.Author.Rules.{scaled_Fits}
 use Rattle.std.proofs.lemmas.Option.{slice_get-get_or}
+use borrow.Author.Rules.{scaled_Fits}
 use Rattle.crew_run.specs.code.Lending.{AreSwapped}
 use Rattle.crew_run.proofs.LendLemmas.{swapped_more, swapped_none}
 use Rattle.crew_run.proofs.lend.swap_gates.Goals as goal

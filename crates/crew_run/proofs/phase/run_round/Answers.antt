@@ -1,5 +1,4 @@
-use Rattle.std.proofs.Common.{arith}
-use Rattle.std.proofs.lemmas.Option.{slice_get-get_or}
+use Rattle.std.proofs.{Common.arith, lemmas.Option.slice_get-get_or}
 use Rattle.crew_run.proofs.StepLemmas.{can_step_kept, one_stepped, stepped_more}
 use Rattle.crew_run.proofs.phase.run_round.Goals as goal
 

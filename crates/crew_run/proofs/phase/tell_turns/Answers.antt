@@ -1,5 +1,5 @@
-use Rattle.std.proofs.lemmas.Option.{slice_get_read}
 use Rattle.std.proofs.Common.{arith, length, refl, subst, ◌≡◌}
+use Rattle.std.proofs.lemmas.Option.{slice_get_read}
 use Rattle.crew_run.specs.code.Phases.{AreBegun}
 use Rattle.crew_run.proofs.PhaseLemmas.{begun_more, begun_none, untold_room}
 use Rattle.crew_run.proofs.phase.tell_turns.Goals as goal

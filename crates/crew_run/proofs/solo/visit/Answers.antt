@@ -1,5 +1,4 @@
-use Rattle.std.proofs.Common.{◌∙◌, refl, sym}
-use Rattle.std.proofs.lemmas.Option.{none-some}
+use Rattle.std.proofs.{Common.◌∙◌, Common.refl, Common.sym, lemmas.Option.none-some}
 use Rattle.crew_run.proofs.PhaseLemmas.{can_step_with, stepped_back}
 use Rattle.crew_run.proofs.solo.visit.Goals as goal
 

@@ -1,5 +1,4 @@
-use Rattle.std.proofs.Common.{arith}
-use Rattle.std.proofs.lemmas.Option.{slice_get-get_or}
+use Rattle.std.proofs.{Common.arith, lemmas.Option.slice_get-get_or}
 use Rattle.crew_run.proofs.SoloLemmas.{all_resumed_none, all_resumed_set}
 use borrow.Author.Rules.{scaled_Fits}
 use Rattle.crew_run.proofs.solo.visit_one.Goals as goal

@@ -1,5 +1,4 @@
-use Rattle.std.proofs.Common.{arith}
-use Rattle.std.proofs.lemmas.Option.{slice_get-get_or}
+use Rattle.std.proofs.{Common.arith, lemmas.Option.slice_get-get_or}
 use Rattle.crew_run.proofs.StepLemmas.{one_stepped, stepped_none}
 use Rattle.crew_run.proofs.turns.step_one.Goals as goal
 

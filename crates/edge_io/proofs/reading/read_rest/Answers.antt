@@ -1,7 +1,6 @@
 use Rattle.std.proofs.Common.{◌≡◌, ◌∙◌, refl, sym, arith, ℕ, ◌+◌, ◌++◌, length, take, drop, false, Ok, Err, Result}
+use Rattle.std.proofs.{KnownBytes.Consumes-nil, KnownBytes.Consumes-whole, lemmas.List.length-take}
 use Rattle.std.specs.Result.{OnOk, is_err}
-use Rattle.std.proofs.KnownBytes.{Consumes-nil, Consumes-whole}
-use Rattle.std.proofs.lemmas.List.{length-take}
 use Rattle.edge_io.proofs.ReadingLemmas.{counts_none, counts_more, counts_whole, counts_failed, counts_unkept, counts_too_long, gone_more, grown_length, past_limit}
 use Rattle.edge_io.proofs.reading.read_rest.Goals as goal
 

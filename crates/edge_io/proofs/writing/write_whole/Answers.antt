@@ -1,5 +1,4 @@
-use Rattle.std.proofs.Common.{arith}
-use Rattle.std.proofs.lemmas.Grind.{common_steps}
+use Rattle.std.proofs.{Common.arith, lemmas.Grind.common_steps}
 use Rattle.edge_io.proofs.lemmas.Taking.{taken_more}
 use Rattle.edge_io.proofs.writing.write_whole.Goals as goal
 

@@ -1,9 +1,7 @@
 use Rattle.std.proofs.Common.{◌≡◌, ◌∙◌, ◌+◌, Some, [], ◌∷◌, ◌++◌, length, slice_get, ap, subst, sym, arith}
 use Rattle.image_defs.specs.declared.image.PortImage.{PortImage}
-use Rattle.event_defs.specs.Sources.{AreFirsts}
-use Rattle.event_defs.specs.code.Sources.{CountsSends}
-use Rattle.event_defs.proofs.SourceLemmas.{entry_there}
-use Rattle.event_defs.proofs.SourceLemmas.{outs_few, before_few, counted_none, counted_more}
+use Rattle.event_defs.specs.{Sources.AreFirsts, code.Sources.CountsSends}
+use Rattle.event_defs.proofs.SourceLemmas.{entry_there, outs_few, before_few, counted_none, counted_more}
 use Rattle.event_defs.proofs.sources.first_sends.Goals as goal
 
 pub ports-init : goal.ports-init

@@ -1,7 +1,6 @@
 use Rattle.std.proofs.Common.{◌+◌, ◌-◌, ◌/◌, ◌<◌, ◌≤◌, subst, sym, arith}
 use Rattle.image_defs.specs.declared.image.LinkOut.{LinkOut}
-use Rattle.event_defs.proofs.SourceLemmas.{entry_there}
-use Rattle.event_defs.proofs.SourceLemmas.{between_all, between_upper, between_lower, between_one}
+use Rattle.event_defs.proofs.SourceLemmas.{entry_there, between_all, between_upper, between_lower, between_one}
 use Rattle.event_defs.proofs.sources.link_at.Goals as goal
 
 pub halves-init : goal.halves-init

@@ -1,8 +1,6 @@
 use Rattle.std.proofs.Common.{◌∙◌, sym, subst}
-use Rattle.std.specs.Prelude.{IfOk}
-use Rattle.std.specs.List.{All}
-use Rattle.fault_sim.specs.Faults.{IsFault}
-use Rattle.fault_sim.specs.Verdicts.{AreVerdicts}
+use Rattle.std.specs.{Prelude.IfOk, List.All}
+use Rattle.fault_sim.specs.{Faults.IsFault, Verdicts.AreVerdicts}
 use Rattle.fault_sim.proofs.all.fault_all.Goals as goal
 
 pub fault_list-requires-clause-faults : goal.fault_list-requires-clause-faults

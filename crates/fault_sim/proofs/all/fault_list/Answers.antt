@@ -1,9 +1,7 @@
 use Rattle.std.proofs.Common.{◌≡◌, ◌∙◌, sym, ap, subst, length}
-use Rattle.std.specs.Prelude.{IfOk}
-use Rattle.std.specs.List.{All}
+use Rattle.std.specs.{Prelude.IfOk, List.All}
 use Rattle.list_laws.proofs.Members.{refill_whole}
-use Rattle.fault_sim.specs.Verdicts.{AreVerdicts}
-use Rattle.fault_sim.specs.code.Groups.{group_faults, IsDone}
+use Rattle.fault_sim.specs.{Verdicts.AreVerdicts, code.Groups.group_faults, code.Groups.IsDone}
 use Rattle.fault_sim.proofs.Gathering.{faults_stay, all_done}
 use Rattle.fault_sim.proofs.all.fault_list.Goals as goal
 

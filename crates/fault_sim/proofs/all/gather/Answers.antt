@@ -1,7 +1,6 @@
 use Rattle.std.proofs.Common.{[], sym, subst}
-use Rattle.fault_sim.specs.Verdicts.{AreVerdicts}
+use Rattle.fault_sim.specs.{Verdicts.AreVerdicts, code.Groups.group_faults}
 use Rattle.fault_sim.proofs.Gathering.{verdicts_none, verdicts_named, gather_more, gather_all}
-use Rattle.fault_sim.specs.code.Groups.{group_faults}
 use Rattle.fault_sim.proofs.all.gather.Goals as goal
 
 pub groups-init : goal.groups-init

@@ -1,6 +1,5 @@
 use Rattle.std.proofs.Common.{take}
-use Rattle.fault_sim.specs.code.Groups.{group_faults}
-use Rattle.fault_sim.specs.Verdicts.{AreVerdicts}
+use Rattle.fault_sim.specs.{code.Groups.group_faults, Verdicts.AreVerdicts}
 use Rattle.fault_sim.proofs.all.gather.Given as goal
 
 abbrev pub invariant-groups : goal.invariant-groups

@@ -1,6 +1,5 @@
 use Rattle.std.proofs.Common.{◌≡◌, take}
-use Rattle.std.specs.Prelude.{map}
-use Rattle.std.specs.List.{zip}
+use Rattle.std.specs.{Prelude.map, List.zip}
 use Rattle.fault_sim.specs.Lines.{verdict_line}
 use Rattle.fault_sim.proofs.lines.verdict_lines.Given as goal
 

@@ -1,8 +1,7 @@
 use Rattle.std.proofs.Common.{◌∙◌, ◌<◌, inl, inr, length, sym, ap, subst, arith}
 use Rattle.std.proofs.lemmas.Bool.{cases_lt}
 use Rattle.list_laws.proofs.Ranges.{last_or}
-use Rattle.fault_sim.specs.code.Lanes.{lane_row}
-use Rattle.fault_sim.specs.code.Runs.{differs_in}
+use Rattle.fault_sim.specs.code.{Lanes.lane_row, Runs.differs_in}
 use Rattle.fault_sim.proofs.Looking.{differs_here, differs_past}
 use Rattle.fault_sim.proofs.look.first_column.Goals as goal
 

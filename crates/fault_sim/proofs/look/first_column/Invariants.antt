@@ -1,6 +1,5 @@
 use Rattle.std.proofs.Common.{◌≡◌, ℕ, ◌<◌, false}
-use Rattle.fault_sim.specs.code.Lanes.{lane_row}
-use Rattle.fault_sim.specs.code.Runs.{differs_in}
+use Rattle.fault_sim.specs.code.{Lanes.lane_row, Runs.differs_in}
 use Rattle.fault_sim.proofs.look.first_column.Given as goal
 
 abbrev pub invariant-columns : goal.invariant-columns

@@ -1,5 +1,4 @@
-use Rattle.std.proofs.lemmas.Slice.Eq.{slice_eq-Decides}
-use Rattle.std.proofs.lemmas.Bool.Decides.{Decides-eqb}
+use Rattle.std.proofs.lemmas.{Slice.Eq.slice_eq-Decides, Bool.Decides.Decides-eqb}
 use Rattle.func_table.proofs.EntryLemmas.{equal_or_other}
 use Rattle.func_table.proofs.shelf.is_equal.Goals as goal
 

@@ -1,9 +1,7 @@
 use Rattle.std.proofs.Common.{◌∙◌, ap, arith, subst, ℕ, [], get_or, Some}
-use Rattle.std.proofs.lemmas.List.{get_or_default}
-use Rattle.std.proofs.lemmas.Option.{slice_get-get_or}
+use Rattle.std.proofs.lemmas.{List.get_or_default, Option.slice_get-get_or}
 use borrow.Author.Count.{below_more}
-use Rattle.func_table.specs.declared.table.Table.{Table}
-use Rattle.func_table.specs.Entries.{AreOther}
+use Rattle.func_table.specs.{declared.table.Table.Table, Entries.AreOther}
 use Rattle.func_table.proofs.shelf.place_of_equal.Goals as goal
 
 pub loop-place-preserved : goal.loop-place-preserved

@@ -1,6 +1,5 @@
 use Rattle.std.proofs.Common.{◌<◌, ℕ, slice_index_or}
-use Rattle.func_table.specs.declared.table.Table.{Table}
-use Rattle.func_table.specs.Entries.{AreOther}
+use Rattle.func_table.specs.{declared.table.Table.Table, Entries.AreOther}
 use Rattle.func_table.proofs.shelf.place_of_equal.Given as goal
 
 abbrev pub invariant-loop-place : goal.invariant-loop-place

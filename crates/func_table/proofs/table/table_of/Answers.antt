@@ -1,7 +1,6 @@
 use Rattle.std.proofs.Common.{◌∙◌, arith}
 use Rattle.func_table.proofs.EntryLemmas.{entries_more, entries_are_answers}
-use Rattle.func_table.specs.Entries.{entry_for, entry_of}
-use Rattle.func_table.specs.code.Entries.{answer_at}
+use Rattle.func_table.specs.{Entries.entry_for, Entries.entry_of, code.Entries.answer_at}
 use Rattle.func_table.proofs.table.table_of.Goals as goal
 
 pub entries-preserved : goal.entries-preserved

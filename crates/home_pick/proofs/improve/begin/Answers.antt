@@ -2,8 +2,7 @@ use Rattle.std.proofs.Common.{◌∙◌, ap, sym, subst, length, false, replicat
 use Rattle.std.proofs.lemmas.List.{length-replicate}
 use Rattle.plan_defs.specs.declared.plan.Homes.{Homes}
 use Rattle.home_pick.specs.code.Working.{IsWork}
-use Rattle.home_pick.proofs.SpreadLemmas.{none_spread}
-use Rattle.home_pick.proofs.TouchLemmas.{none_touched}
+use Rattle.home_pick.proofs.{SpreadLemmas.none_spread, TouchLemmas.none_touched}
 use Rattle.home_pick.proofs.improve.begin.Goals as goal
 
 pub returns-clause-work : goal.returns-clause-work

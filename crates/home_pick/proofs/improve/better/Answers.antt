@@ -1,6 +1,5 @@
 use Rattle.std.proofs.Common.{◌≡◌, ◌∙◌, ap, subst, arith}
-use Rattle.home_pick.specs.Better.{IsBetter}
-use Rattle.home_pick.specs.Crossings.{crossings}
+use Rattle.home_pick.specs.{Better.IsBetter, Crossings.crossings}
 use Rattle.home_pick.proofs.CrossingLemmas.{better_way, better_fewer, better_none}
 use Rattle.home_pick.proofs.improve.better.Goals as goal
 

@@ -1,6 +1,5 @@
 use Rattle.std.proofs.Common.{◌∙◌, List, ap, sym, subst}
-use Rattle.home_pick.specs.declared.bags.Entry.{Entry}
-use Rattle.home_pick.specs.code.Bags.{IsBag, times}
+use Rattle.home_pick.specs.{declared.bags.Entry.Entry, code.Bags.IsBag, code.Bags.times}
 use Rattle.home_pick.proofs.CrossingLemmas.{readers_are}
 use Rattle.home_pick.proofs.improve.readers_of.Goals as goal
 

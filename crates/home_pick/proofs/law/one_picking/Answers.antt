@@ -1,5 +1,4 @@
-use Rattle.home_pick.proofs.HomeLemmas.{computed_last}
-use Rattle.home_pick.proofs.lemmas.HousingLemmas.{homes_one}
+use Rattle.home_pick.proofs.{HomeLemmas.computed_last, lemmas.HousingLemmas.homes_one}
 use Rattle.home_pick.proofs.law.one_picking.Goals as goal
 
 pub returns : goal.returns

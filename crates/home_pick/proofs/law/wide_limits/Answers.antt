@@ -1,6 +1,5 @@
 use Rattle.std.proofs.Common.{arith}
-use Rattle.home_pick.proofs.HomeLemmas.{wide_home}
-use Rattle.home_pick.proofs.TurnLemmas.{room_first}
+use Rattle.home_pick.proofs.{HomeLemmas.wide_home, TurnLemmas.room_first}
 use Rattle.home_pick.proofs.law.wide_limits.Goals as goal
 
 pub returns-clause-turn : goal.returns-clause-turn

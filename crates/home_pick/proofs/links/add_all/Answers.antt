@@ -1,8 +1,6 @@
 use Rattle.std.proofs.Common.{List, ℕ, subst}
 use Rattle.plan_defs.specs.Homes.{host_of}
-use Rattle.home_pick.specs.Bags.{where_at}
-use Rattle.home_pick.specs.Crossings.{times_in}
-use Rattle.home_pick.specs.code.Uses.{Gives}
+use Rattle.home_pick.specs.{Bags.where_at, Crossings.times_in, code.Uses.Gives}
 use Rattle.home_pick.proofs.LinkLemmas.{uses_are}
 use Rattle.home_pick.proofs.links.add_all.Goals as goal
 

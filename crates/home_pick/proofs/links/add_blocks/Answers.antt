@@ -1,8 +1,6 @@
 use Rattle.std.proofs.Common.{◌≡◌, length, get_or, Some, slice_get, refl, subst, arith}
 use Rattle.std.proofs.lemmas.Option.{slice_get_read}
-use Rattle.home_pick.specs.Bags.{where_at}
-use Rattle.home_pick.specs.Crossings.{memory_uses}
-use Rattle.home_pick.specs.code.Uses.{Gives}
+use Rattle.home_pick.specs.{Bags.where_at, Crossings.memory_uses, code.Uses.Gives}
 use Rattle.home_pick.proofs.LinkLemmas.{gives_read}
 use Rattle.home_pick.proofs.links.add_blocks.Goals as goal
 

@@ -1,8 +1,6 @@
 use Rattle.std.proofs.Common.{◌≡◌}
 use Rattle.plan_defs.specs.Homes.{block_home}
-use Rattle.home_pick.specs.Bags.{where_at}
-use Rattle.home_pick.specs.Crossings.{block_uses}
-use Rattle.home_pick.specs.code.Uses.{AreBags, Gives}
+use Rattle.home_pick.specs.{Bags.where_at, Crossings.block_uses, code.Uses.AreBags, code.Uses.Gives}
 use Rattle.home_pick.proofs.SumLemmas.{total}
 use Rattle.home_pick.proofs.links.add_blocks.Given as goal
 

@@ -1,9 +1,7 @@
 use Rattle.std.proofs.Common.{◌≡◌, ◌∙◌, ℕ, get_or, ap, arith}
-use Rattle.home_pick.specs.code.Bags.{times}
-use Rattle.home_pick.specs.Crossings.{uses_by}
-use Rattle.home_pick.proofs.LinkLemmas.{gives_taken, taken_low, taken_times}
+use Rattle.home_pick.specs.{code.Bags.times, Crossings.uses_by}
+use Rattle.home_pick.proofs.{LinkLemmas.gives_taken, LinkLemmas.taken_low, LinkLemmas.taken_times, links.add_items.Goals.After-bag_of}
 use Rattle.home_pick.proofs.links.add_items.Goals as goal
-use Rattle.home_pick.proofs.links.add_items.Goals.{After-bag_of}
 
 counts : (c : After-bag_of) (i : ℕ) → times c.bag_of.result.now i ≡ uses_by c.args.nodes.now c.items.u i
 counts c = taken_times c.args.nodes.now c.args.takes.now c.items.u c.bag_of.result.now c.requires.takes (omega arith) c.bag_of.ensures

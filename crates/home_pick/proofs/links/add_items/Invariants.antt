@@ -1,8 +1,6 @@
 use Rattle.std.proofs.Common.{◌≡◌}
 use Rattle.plan_defs.specs.Homes.{home_of}
-use Rattle.home_pick.specs.Bags.{where_at}
-use Rattle.home_pick.specs.Crossings.{uses_by}
-use Rattle.home_pick.specs.code.Uses.{AreBags, Gives}
+use Rattle.home_pick.specs.{Bags.where_at, Crossings.uses_by, code.Uses.AreBags, code.Uses.Gives}
 use Rattle.home_pick.proofs.SumLemmas.{total}
 use Rattle.home_pick.proofs.links.add_items.Given as goal
 

@@ -1,8 +1,7 @@
 use Rattle.std.proofs.Common.{◌≡◌, ◌≤◌, ◌∷◌, ◌++◌, [], List, length, ap, arith}
 use Rattle.std.proofs.lemmas.List.{length_push}
 use Rattle.plan_defs.proofs.UserLemmas.{read_at}
-use Rattle.home_pick.specs.declared.bags.Entry.{Entry}
-use Rattle.home_pick.specs.code.Bags.{IsBag}
+use Rattle.home_pick.specs.{declared.bags.Entry.Entry, code.Bags.IsBag}
 use Rattle.home_pick.proofs.LinkLemmas.{all_push, taken_more}
 use Rattle.home_pick.proofs.links.takes_of.Goals as goal
 

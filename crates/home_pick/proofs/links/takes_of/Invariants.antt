@@ -1,7 +1,5 @@
 use Rattle.std.proofs.Common.{◌≡◌, ℕ, ◌<◌, ◌≤◌, length}
-use Rattle.home_pick.specs.code.Bags.{times}
-use Rattle.home_pick.specs.Crossings.{uses_by}
-use Rattle.home_pick.specs.code.Uses.{bag_at, AreBags}
+use Rattle.home_pick.specs.{code.Bags.times, Crossings.uses_by, code.Uses.bag_at, code.Uses.AreBags}
 use Rattle.home_pick.proofs.links.takes_of.Given as goal
 
 abbrev pub invariant-items : goal.invariant-items

@@ -1,5 +1,4 @@
-use Rattle.std.proofs.Common.{rules}
-use Rattle.std.proofs.lemmas.Grind.{common_steps}
+use Rattle.std.proofs.{Common.rules, lemmas.Grind.common_steps}
 use Rattle.home_pick.proofs.loads.most_each.Goals as goal
 
 pub ports-preserved : goal.ports-preserved

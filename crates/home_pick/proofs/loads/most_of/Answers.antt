@@ -1,6 +1,5 @@
 use Rattle.std.proofs.Common.{◌≡◌, ◌∙◌, get_or, ap, arith}
-use Rattle.std.specs.Prelude.{max}
-use Rattle.std.specs.List.{fold, range_with_len}
+use Rattle.std.specs.{Prelude.max, List.fold, List.range_with_len}
 use Rattle.home_pick.specs.Better.{load_at, most_load}
 use Rattle.home_pick.proofs.LoadLemmas.{most_more}
 use Rattle.home_pick.proofs.loads.most_of.Goals as goal

@@ -1,6 +1,5 @@
 use Rattle.std.proofs.Common.{◌≡◌}
-use Rattle.std.specs.Prelude.{max}
-use Rattle.std.specs.List.{fold, range_with_len}
+use Rattle.std.specs.{Prelude.max, List.fold, List.range_with_len}
 use Rattle.home_pick.specs.Better.{load_at}
 use Rattle.home_pick.proofs.loads.most_of.Given as goal
 

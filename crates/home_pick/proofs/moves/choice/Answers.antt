@@ -1,7 +1,6 @@
 use Rattle.std.proofs.Common.{◌≡◌, get_or, refl, ap, arith}
 use Rattle.plan_defs.specs.Homes.{home_of}
-use Rattle.home_pick.proofs.LoadLemmas.{node_home}
-use Rattle.home_pick.proofs.WorkLemmas.{choice_is}
+use Rattle.home_pick.proofs.{LoadLemmas.node_home, WorkLemmas.choice_is}
 use Rattle.home_pick.proofs.moves.choice.Goals as goal
 
 pub strongest-requires-clause-own : goal.strongest-requires-clause-own

@@ -1,14 +1,9 @@
 use Rattle.std.proofs.Common.{◌≡◌, ◌∙◌, ℕ, get_or, sym, ap, subst}
 use Rattle.plan_defs.specs.Homes.{home_of}
-use Rattle.home_pick.specs.code.Bags.{times}
-use Rattle.home_pick.specs.code.Moves.{AreUsesWithout}
-use Rattle.home_pick.specs.code.Spread.{AreSpreadWithout}
-use Rattle.home_pick.specs.Crossings.{uses_by}
-use Rattle.home_pick.proofs.LinkLemmas.{taken_low, taken_times}
-use Rattle.home_pick.proofs.SpreadLemmas.{lifted_spread}
-use Rattle.home_pick.proofs.WorkLemmas.{lift_some, lifted_uses}
-use Rattle.home_pick.proofs.moves.lift.Goals as goal
+use Rattle.home_pick.specs.{code.Bags.times, code.Moves.AreUsesWithout, code.Spread.AreSpreadWithout, Crossings.uses_by}
+use Rattle.home_pick.proofs.{LinkLemmas.taken_low, LinkLemmas.taken_times, SpreadLemmas.lifted_spread, WorkLemmas.lift_some, WorkLemmas.lifted_uses}
 use Rattle.home_pick.proofs.moves.lift.Goals.{After-bag_of-taken, After-unmark_all}
+use Rattle.home_pick.proofs.moves.lift.Goals as goal
 
 counts : (c : After-bag_of-taken) (i : ℕ) → times c.bag_of-taken.result.now i ≡ uses_by c.args.nodes.now c.args.v i
 counts c = taken_times c.args.nodes.now c.args.takes.now c.args.v c.bag_of-taken.result.now c.requires.takes c.requires.node c.bag_of-taken.ensures

@@ -1,7 +1,6 @@
 use Rattle.std.proofs.Common.{◌≡◌}
 use Rattle.std.specs.List.{range_with_len}
-use Rattle.home_pick.specs.Better.{settled_from}
-use Rattle.home_pick.specs.code.Working.{IsWork}
+use Rattle.home_pick.specs.{Better.settled_from, code.Working.IsWork}
 use Rattle.home_pick.proofs.moves.one_pass.Given as goal
 
 abbrev pub invariant-nodes : goal.invariant-nodes

@@ -1,17 +1,11 @@
 use Rattle.std.proofs.Common.{◌≡◌, ◌∙◌, ◌+◌, ◌<◌, List, ℕ, length, get_or, sym, ap, subst, arith}
 use Rattle.std.specs.Prelude.{slice_index}
 use Rattle.plan_defs.specs.Homes.{home_of}
-use Rattle.home_pick.specs.Bags.{where_at}
-use Rattle.home_pick.specs.code.Bags.{times}
-use Rattle.home_pick.specs.Crossings.{crossings, moved, uses_by}
-use Rattle.home_pick.specs.code.Working.{IsWork}
-use Rattle.home_pick.proofs.LinkLemmas.{taken_low, taken_times}
-use Rattle.home_pick.proofs.LoadLemmas.{node_home}
-use Rattle.home_pick.proofs.MoveLemmas.{moved_homes}
-use Rattle.home_pick.proofs.SpreadLemmas.{put_spread}
+use Rattle.home_pick.specs.{Bags.where_at, code.Bags.times, Crossings.crossings, Crossings.moved, Crossings.uses_by, code.Working.IsWork}
 use Rattle.home_pick.proofs.WorkLemmas.{put_uses, put_loads, put_count, load_some, load_few, crossings_most}
-use Rattle.home_pick.proofs.moves.put.Goals as goal
+use Rattle.home_pick.proofs.{LinkLemmas.taken_low, LinkLemmas.taken_times, LoadLemmas.node_home, MoveLemmas.moved_homes, SpreadLemmas.put_spread}
 use Rattle.home_pick.proofs.moves.put.Goals.{After-as_slice, After-bag_of-taken, After-as_slice-3}
+use Rattle.home_pick.proofs.moves.put.Goals as goal
 
 -- where the node is
 own_is : (c : After-as_slice) → get_or c.as_slice.result.now c.args.v 0 ≡ home_of c.args.work.now.homes c.args.v

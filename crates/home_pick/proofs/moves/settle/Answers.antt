@@ -1,6 +1,5 @@
 use Rattle.std.proofs.Common.{◌∙◌, ap}
-use Rattle.home_pick.specs.Better.{settled}
-use Rattle.home_pick.specs.Crossings.{moved}
+use Rattle.home_pick.specs.{Better.settled, Crossings.moved}
 use Rattle.home_pick.proofs.WorkLemmas.{settled_is}
 use Rattle.home_pick.proofs.moves.settle.Goals as goal
 

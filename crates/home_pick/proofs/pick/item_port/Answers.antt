@@ -1,10 +1,9 @@
 use Rattle.std.proofs.Common.{◌≡◌, ◌+◌, ◌-◌, ◌<◌, inl, inr, length, get_or, [], ◌∷◌, ◌++◌, sym, subst, arith}
 use Rattle.node_defs.specs.WellFormed.{NamesParts, IsComputed}
 use Rattle.home_pick.specs.code.Rooms.{AreTurned}
-use Rattle.home_pick.proofs.HomeLemmas.{computed_last, node_room_left, source_first}
-use Rattle.home_pick.proofs.TurnLemmas.{turned_before}
-use Rattle.home_pick.proofs.pick.item_port.Goals as goal
+use Rattle.home_pick.proofs.{HomeLemmas.computed_last, HomeLemmas.node_room_left, HomeLemmas.source_first, TurnLemmas.turned_before}
 use Rattle.home_pick.proofs.pick.item_port.Goals.{In-Node}
+use Rattle.home_pick.proofs.pick.item_port.Goals as goal
 
 is_computed : (c : In-Node) → IsComputed c.args.item.now
 is_computed c = elim c.in-Node.is [ inl node ↦ subst IsComputed (sym node.2) tt | inr latch ↦ subst IsComputed (sym latch.1) tt ]

@@ -3,8 +3,7 @@ use Rattle.std.specs.List.{sum}
 use Rattle.machine_text.specs.declared.machine.Limited.TheVariants.{Nodes}
 use Rattle.machine_text.proofs.lemmas.LimitLemmas.{limit_in_range}
 use Rattle.plan_defs.specs.Picks.{node_limit}
-use Rattle.home_pick.proofs.FillLemmas.{limits_at, limits_count}
-use Rattle.home_pick.proofs.TurnLemmas.{limits_sum}
+use Rattle.home_pick.proofs.{FillLemmas.limits_at, FillLemmas.limits_count, TurnLemmas.limits_sum}
 use Rattle.home_pick.proofs.pick.node_limits.Goals as goal
 
 pub total-limit-requires : goal.total-limit-requires

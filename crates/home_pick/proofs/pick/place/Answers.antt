@@ -1,7 +1,6 @@
 use Rattle.std.proofs.Common.{◌≡◌, ◌∙◌, ◌<◌, List, ℕ, Some, slice_get, length, get_or, refl, sym, ap, subst, arith}
 use Rattle.std.proofs.lemmas.Option.{slice_get_read}
-use Rattle.node_defs.specs.declared.items.NodeBlock.{NodeBlock}
-use Rattle.node_defs.specs.declared.items.NodeNet.{NodeNet}
+use Rattle.node_defs.specs.declared.items.{NodeBlock.NodeBlock, NodeNet.NodeNet}
 use Rattle.plan_defs.specs.Picks.{bits_of}
 use Rattle.home_pick.specs.code.Rooms.{LacksBits, IsMostLeft}
 use Rattle.home_pick.proofs.FillLemmas.{bits_read, none_found, some_bits}

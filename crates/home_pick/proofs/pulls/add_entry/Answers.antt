@@ -1,13 +1,9 @@
 use Rattle.std.proofs.Common.{◌∙◌, ◌<◌, inl, inr, List, length, get_or, sym, ap, subst, arith}
-use Rattle.home_pick.specs.declared.bags.Entry.{Entry}
-use Rattle.home_pick.specs.code.Bags.{IsBag, times}
-use Rattle.home_pick.proofs.LinkLemmas.{uses_low}
-use Rattle.home_pick.specs.code.Moves.{pull_by}
-use Rattle.home_pick.specs.code.Work.{beside}
+use Rattle.home_pick.specs.{declared.bags.Entry.Entry, code.Bags.IsBag, code.Bags.times, code.Moves.pull_by, code.Work.beside}
 use Rattle.home_pick.proofs.PullLemmas.{entry_pull, entry_nothing, nothing_added, one_added}
-use Rattle.home_pick.proofs.SpreadLemmas.{even_pull}
-use Rattle.home_pick.proofs.pulls.add_entry.Goals as goal
 use Rattle.home_pick.proofs.pulls.add_entry.Goals.{Then-entry-gt0, else-entry-gt0-via-then-entry-gt0+else-item-v, else-entry-gt0-via-else-entry-gt0, else-entry-gt0-via-then-entry-gt0+then-item-v+else-not-spread-item}
+use Rattle.home_pick.proofs.{LinkLemmas.uses_low, SpreadLemmas.even_pull}
+use Rattle.home_pick.proofs.pulls.add_entry.Goals as goal
 
 -- the entry's item is there
 key_low : (c : Then-entry-gt0) → c.args.entry.key < length c.args.nodes.now.items

@@ -1,11 +1,8 @@
 use Rattle.std.proofs.Common.{◌≡◌, ◌∙◌, ◌+◌, ◌<◌, List, length, get_or, take, ap, arith}
 use Rattle.std.proofs.lemmas.List.{take_all}
 use Rattle.std.specs.List.{sum_by}
-use Rattle.home_pick.specs.declared.bags.Entry.{Entry}
-use Rattle.home_pick.specs.code.Bags.{entry_at}
-use Rattle.home_pick.specs.code.Work.{hit}
-use Rattle.home_pick.proofs.BagLemmas.{hits_flag}
-use Rattle.home_pick.proofs.PullLemmas.{hits_none}
+use Rattle.home_pick.specs.{declared.bags.Entry.Entry, code.Bags.entry_at, code.Work.hit}
+use Rattle.home_pick.proofs.{BagLemmas.hits_flag, PullLemmas.hits_none}
 use Rattle.home_pick.proofs.pulls.add_hits.Goals as goal
 
 pub add_hit-requires-clause-small : goal.add_hit-requires-clause-small

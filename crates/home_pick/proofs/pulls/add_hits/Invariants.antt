@@ -1,7 +1,6 @@
 use Rattle.std.proofs.Common.{take}
 use Rattle.std.specs.List.{sum_by}
-use Rattle.home_pick.specs.code.Work.{hit, Adds}
-use Rattle.home_pick.specs.code.Touched.{AreTouched}
+use Rattle.home_pick.specs.code.{Work.hit, Work.Adds, Touched.AreTouched}
 use Rattle.home_pick.proofs.pulls.add_hits.Given as goal
 
 abbrev pub invariant-entries : goal.invariant-entries

@@ -1,6 +1,5 @@
 use Rattle.std.proofs.Common.{◌+◌, sym, subst, take, arith}
-use Rattle.std.specs.Prelude.{slice_index}
-use Rattle.std.specs.List.{Contains}
+use Rattle.std.specs.{Prelude.slice_index, List.Contains}
 use Rattle.home_pick.specs.code.Work.{room_in}
 use Rattle.home_pick.proofs.TouchLemmas.{IsBest, best_before, strongest_is}
 use Rattle.home_pick.proofs.pulls.strongest.Goals as goal

@@ -1,14 +1,9 @@
 use Rattle.std.proofs.Common.{◌≡◌, ◌∙◌, ◌+◌, ◌<◌, ℕ, List, length, get_or, take, sym, ap, arith}
+use Rattle.std.proofs.lemmas.List.{take_all, Sums.sum_by_more}
 use Rattle.std.specs.List.{sum_by}
-use Rattle.std.proofs.lemmas.List.{take_all}
-use Rattle.std.proofs.lemmas.List.Sums.{sum_by_more}
-use Rattle.home_pick.specs.declared.bags.Entry.{Entry}
-use Rattle.home_pick.specs.Bags.{flag}
-use Rattle.home_pick.specs.code.Bags.{times, entry_at}
-use Rattle.home_pick.specs.code.Moves.{pull_by}
-use Rattle.home_pick.specs.code.Work.{beside}
-use Rattle.home_pick.proofs.SumLemmas.{flag_most}
+use Rattle.home_pick.specs.{declared.bags.Entry.Entry, Bags.flag, code.Bags.times, code.Bags.entry_at, code.Moves.pull_by, code.Work.beside}
 use Rattle.home_pick.proofs.PullLemmas.{own_pull, beside_most, taken_count, pull_members}
+use Rattle.home_pick.proofs.SumLemmas.{flag_most}
 use Rattle.home_pick.proofs.pulls.weigh.Goals as goal
 
 pub taken-init : goal.taken-init

@@ -1,9 +1,6 @@
 use Rattle.std.proofs.Common.{◌≡◌, ℕ, ◌+◌, ◌<◌, ◌≤◌, length, get_or, take}
 use Rattle.std.specs.List.{sum_by}
-use Rattle.home_pick.specs.code.Moves.{pull_by, AreLowered}
-use Rattle.home_pick.specs.code.Touched.{AreTouched}
-use Rattle.home_pick.specs.code.Uses.{bag_at}
-use Rattle.home_pick.specs.code.Work.{beside}
+use Rattle.home_pick.specs.code.{Moves.pull_by, Moves.AreLowered, Touched.AreTouched, Uses.bag_at, Work.beside}
 use Rattle.home_pick.proofs.pulls.weigh.Given as goal
 
 abbrev pub invariant-taken : goal.invariant-taken

@@ -1,7 +1,5 @@
 use Rattle.std.proofs.Common.{◌≢◌, take}
-use Rattle.home_pick.specs.code.Bags.{times}
-use Rattle.home_pick.specs.code.Spread.{Unmarks}
-use Rattle.home_pick.specs.code.Uses.{bag_at}
+use Rattle.home_pick.specs.code.{Bags.times, Spread.Unmarks, Uses.bag_at}
 use Rattle.home_pick.proofs.spread.unmark_all.Given as goal
 
 abbrev pub invariant-taken : goal.invariant-taken

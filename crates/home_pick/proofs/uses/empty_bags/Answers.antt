@@ -1,7 +1,6 @@
 use Rattle.std.proofs.Common.{◌≡◌, ◌∷◌, ◌++◌, [], List, length, ap, arith}
 use Rattle.std.proofs.lemmas.List.{length_push}
-use Rattle.home_pick.specs.declared.bags.Entry.{Entry}
-use Rattle.home_pick.specs.code.Bags.{IsBag, times}
+use Rattle.home_pick.specs.{declared.bags.Entry.Entry, code.Bags.IsBag, code.Bags.times}
 use Rattle.home_pick.proofs.LinkLemmas.{all_push}
 use Rattle.home_pick.proofs.uses.empty_bags.Goals as goal
 

@@ -1,6 +1,5 @@
 use Rattle.std.proofs.Common.{◌≡◌, ℕ, length}
-use Rattle.home_pick.specs.code.Bags.{times}
-use Rattle.home_pick.specs.code.Uses.{bag_at, AreBags}
+use Rattle.home_pick.specs.code.{Bags.times, Uses.bag_at, Uses.AreBags}
 use Rattle.home_pick.proofs.uses.empty_bags.Given as goal
 
 abbrev pub invariant-bags : goal.invariant-bags

@@ -1,7 +1,5 @@
 use Rattle.std.proofs.Common.{take}
-use Rattle.home_pick.specs.Bags.{where_at}
-use Rattle.home_pick.specs.Crossings.{times_in}
-use Rattle.home_pick.specs.code.Uses.{AreBags, Gives}
+use Rattle.home_pick.specs.{Bags.where_at, Crossings.times_in, code.Uses.AreBags, code.Uses.Gives}
 use Rattle.home_pick.proofs.uses.give_all.Given as goal
 
 abbrev pub invariant-items : goal.invariant-items

@@ -1,7 +1,5 @@
 use Rattle.std.proofs.Common.{take}
-use Rattle.home_pick.specs.Bags.{where_at}
-use Rattle.home_pick.specs.code.Bags.{times}
-use Rattle.home_pick.specs.code.Uses.{AreBags, Gives}
+use Rattle.home_pick.specs.{Bags.where_at, code.Bags.times, code.Uses.AreBags, code.Uses.Gives}
 use Rattle.home_pick.proofs.uses.take_bag.Given as goal
 
 abbrev pub invariant-taken : goal.invariant-taken

@@ -1,12 +1,10 @@
 use Rattle.std.proofs.Common.{◌<◌, get_or, arith, length, subst, sym}
 use Rattle.std.proofs.lemmas.Result.{err_from_is_err_and}
-use Rattle.node_defs.specs.declared.items.Item.TheVariants.{Input}
-use Rattle.node_defs.specs.WellFormed.{NamesParts}
+use Rattle.node_defs.specs.{declared.items.Item.TheVariants.Input, WellFormed.NamesParts}
 use Rattle.image_defs.specs.Matches.{claims_of}
-use Rattle.image_build.specs.code.Layouts.{IsBitFor}
-use Rattle.image_build.specs.code.Plans.{IsBitAt}
-use Rattle.image_build.proofs.GrowLemmas.{made_all, made_next}
+use Rattle.image_build.specs.code.{Layouts.IsBitFor, Plans.IsBitAt}
 use Rattle.image_build.proofs.PlannedLemmas.{at_place, item_at, bit_at_array, bit_right}
+use Rattle.image_build.proofs.GrowLemmas.{made_all, made_next}
 use Rattle.image_build.proofs.array.bits_of.Goals as goal
 
 pub bit_of-requires : goal.bit_of-requires

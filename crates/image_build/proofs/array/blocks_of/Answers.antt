@@ -1,7 +1,5 @@
 use Rattle.std.proofs.Common.{◌≡◌, ◌<◌, ◌∙◌, get_or, Some, length, slice_get, ap, subst, sym, arith}
-use Rattle.std.proofs.lemmas.List.{take_all}
-use Rattle.std.proofs.lemmas.Option.{slice_get-get_or}
-use Rattle.std.proofs.lemmas.Result.{err_from_is_err_and}
+use Rattle.std.proofs.lemmas.{List.take_all, Option.slice_get-get_or, Result.err_from_is_err_and}
 use Rattle.image_build.specs.code.Layouts.{AreBlocks}
 use Rattle.image_build.proofs.MemoryLemmas.{blocks_more}
 use Rattle.image_build.proofs.array.blocks_of.Goals as goal

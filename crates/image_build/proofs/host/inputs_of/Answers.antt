@@ -2,8 +2,7 @@ use Rattle.std.proofs.Common.{arith, get_or, length, subst, sym, ◌<◌}
 use Rattle.std.proofs.lemmas.Result.{err_from_is_err_and}
 use Rattle.node_defs.specs.declared.items.Item.TheVariants.{Input}
 use Rattle.image_build.specs.code.Layouts.{IsInputFor}
-use Rattle.image_build.proofs.GrowLemmas.{made_all, made_next}
-use Rattle.image_build.proofs.PlannedLemmas.{at_place, item_at, input_at_host}
+use Rattle.image_build.proofs.{GrowLemmas.made_all, GrowLemmas.made_next, PlannedLemmas.at_place, PlannedLemmas.item_at, PlannedLemmas.input_at_host}
 use Rattle.image_build.proofs.host.inputs_of.Goals as goal
 
 pub input_of-requires : goal.input_of-requires

@@ -1,12 +1,8 @@
-use Rattle.std.proofs.Common.{ℕ, List}
+use Rattle.std.proofs.{Common.ℕ, Common.List, lemmas.Result.IfOk-weaker}
 use Rattle.std.specs.Prelude.{IfOk}
-use Rattle.std.proofs.lemmas.Result.{IfOk-weaker}
-use Rattle.net_defs.specs.declared.stimulus.Stimulus.{Stimulus}
-use Rattle.net_defs.specs.Steps.{State}
+use Rattle.net_defs.specs.{declared.stimulus.Stimulus.Stimulus, Steps.State}
 use Rattle.node_defs.specs.Values.{AreItemValues}
-use Rattle.image_build.specs.Plans.{IsPlanned}
-use Rattle.image_build.specs.Built.{IsBuilt, GivesItems}
-use Rattle.image_build.specs.code.Layouts.{IsLaidOut}
+use Rattle.image_build.specs.{Plans.IsPlanned, Built.IsBuilt, Built.GivesItems, code.Layouts.IsLaidOut}
 use Rattle.image_build.proofs.BuiltLemmas.{laid_out_is_built, built_gives}
 use Rattle.image_build.proofs.image.build.Goals as goal
 

@@ -1,9 +1,7 @@
 use Rattle.std.proofs.Common.{◌≡◌, ◌∙◌, ◌<◌, [], length, Some, slice_get, ap, sym, subst, arith}
-use Rattle.std.proofs.lemmas.List.{get_or_default}
-use Rattle.std.proofs.lemmas.Option.{slice_get-get_or}
+use Rattle.std.proofs.lemmas.{List.get_or_default, Option.slice_get-get_or}
 use Rattle.image_defs.specs.Matches.{claims_of}
-use Rattle.image_build.specs.PortItems.{ArePortItems}
-use Rattle.image_build.specs.code.Layouts.{IsWorkFor}
+use Rattle.image_build.specs.{PortItems.ArePortItems, code.Layouts.IsWorkFor}
 use Rattle.image_build.proofs.PortLemmas.{ports_more}
 use Rattle.image_build.proofs.image.port_images.Goals as goal
 

@@ -1,7 +1,6 @@
 use Rattle.std.proofs.Common.{inl, inr, sym, subst, refl, ◌∙◌, slice_index_or}
 use Rattle.std.proofs.lemmas.Option.{slice_get_within, slice_get-get_or}
-use Rattle.node_defs.specs.Takes.{Takes}
-use Rattle.node_defs.specs.WellFormed.{NamesParts}
+use Rattle.node_defs.specs.{Takes.Takes, WellFormed.NamesParts}
 use Rattle.image_defs.specs.declared.image.Task.TheVariants.{Eval}
 use Rattle.image_build.specs.code.Layouts.{IsTaskFor}
 use Rattle.image_build.proofs.logic.task_of.Goals as goal

@@ -1,6 +1,5 @@
 use Rattle.std.proofs.Common.{rules}
-use Rattle.image_defs.specs.Claimed.{HasTiming}
-use Rattle.image_defs.specs.WellFormed.{IsWellFormed}
+use Rattle.image_defs.specs.{Claimed.HasTiming, WellFormed.IsWellFormed}
 use Rattle.image_check.proofs.FirstLemmas.{all_match}
 use Rattle.image_check.proofs.check.check_laid.Goals as goal
 

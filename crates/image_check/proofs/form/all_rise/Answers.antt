@@ -1,7 +1,6 @@
 use Rattle.std.proofs.Common.{rules}
 use Rattle.image_check.specs.code.Shapes.{IsRising}
-use Rattle.image_check.proofs.lemmas.EachLemmas.{each_next, each_done, each_not}
-use Rattle.image_check.proofs.ShapeLemmas.{shape_at}
+use Rattle.image_check.proofs.{lemmas.EachLemmas.each_next, lemmas.EachLemmas.each_done, lemmas.EachLemmas.each_not, ShapeLemmas.shape_at}
 use Rattle.image_check.proofs.form.all_rise.Goals as goal
 
 pub port_rises-requires : goal.port_rises-requires

@@ -1,6 +1,5 @@
 use Rattle.std.proofs.Common.{◌≡◌, ◌↔◌, ℕ, ◌+◌, ◌<◌, length, Some, slice_get}
-use Rattle.image_defs.specs.declared.image.PortImage.{PortImage}
-use Rattle.image_defs.specs.WellFormed.{IsHost}
+use Rattle.image_defs.specs.{declared.image.PortImage.PortImage, WellFormed.IsHost}
 use Rattle.image_check.proofs.form.is_host_last.Given as goal
 
 abbrev pub invariant-ports : goal.invariant-ports

@@ -1,5 +1,4 @@
-use Rattle.image_check.proofs.AnswerLemmas.{answered}
-use Rattle.image_check.proofs.OneLemmas.{one_answer}
+use Rattle.image_check.proofs.{AnswerLemmas.answered, OneLemmas.one_answer}
 use Rattle.image_check.proofs.law.matches_or_not.Goals as goal
 
 pub returns-clause-some : goal.returns-clause-some

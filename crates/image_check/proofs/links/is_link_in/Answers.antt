@@ -1,7 +1,5 @@
-use Rattle.std.proofs.Common.{sym, arith}
-use Rattle.std.proofs.lemmas.Option.{slice_get_within}
-use Rattle.image_check.proofs.LinkLemmas.{link_in_some}
-use Rattle.image_check.proofs.ShapeLemmas.{shape_found}
+use Rattle.std.proofs.{Common.sym, Common.arith, lemmas.Option.slice_get_within}
+use Rattle.image_check.proofs.{LinkLemmas.link_in_some, ShapeLemmas.shape_found}
 use Rattle.image_check.proofs.links.is_link_in.Goals as goal
 
 pub returns-in-Some : goal.returns-in-Some

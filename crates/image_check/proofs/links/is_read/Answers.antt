@@ -1,8 +1,6 @@
-use Rattle.std.proofs.Common.{◌∙◌, ap, subst}
+use Rattle.std.proofs.{Common.◌∙◌, Common.ap, Common.subst, lemmas.Option.get_or_from_slice_get}
 use Rattle.std.specs.Prelude.{◌↔◌, IsTrue}
-use Rattle.std.proofs.lemmas.Option.{get_or_from_slice_get}
-use Rattle.image_defs.specs.declared.image.LinkOut.{LinkOut}
-use Rattle.image_defs.specs.Places.{Stands}
+use Rattle.image_defs.specs.{declared.image.LinkOut.LinkOut, Places.Stands}
 use Rattle.image_check.proofs.links.is_read.Goals as goal
 
 pub returns : goal.returns

@@ -1,8 +1,6 @@
 use Rattle.std.proofs.Common.{Bool, IfSome, List, None, Some, false, slice_get, subst, sym, ℕ, ◌↔◌, ◌≡◌}
 use Rattle.std.specs.Bool.{IsTrue}
-use Rattle.image_defs.specs.Places.{blocks_of}
-use Rattle.image_defs.specs.declared.image.Work.{Work}
-use Rattle.image_defs.specs.Matches.{BitImplements, InputImplements, TaskImplements}
+use Rattle.image_defs.specs.{Places.blocks_of, declared.image.Work.Work, Matches.BitImplements, Matches.InputImplements, Matches.TaskImplements}
 use Rattle.image_defs.specs.Claimed.{lists_of}
 use Rattle.image_check.specs.code.Memories.{AreSameMemories}
 use Rattle.image_check.proofs.nodes.implements.Goals as goal

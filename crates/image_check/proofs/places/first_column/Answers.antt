@@ -1,14 +1,8 @@
 use Rattle.std.proofs.Common.{MatchOption, None, Option, Some, ◌-◌, ◌<◌, ◌∙◌, ◌≡◌, List, ap, arith, length, slice_get, subst, sym, ℕ}
-use Rattle.image_defs.specs.Places.{IsPort, host_of, printed_of}
-use Rattle.image_defs.specs.declared.image.PortImage.{PortImage}
-use Rattle.image_defs.specs.declared.image.Source.{Source}
-use Rattle.image_defs.specs.Matches.{Carries}
-use Rattle.node_defs.specs.declared.items.Feed.TheVariants.{From}
-use Rattle.node_defs.specs.declared.items.NodeNet.{NodeNet}
-use Rattle.node_defs.specs.declared.items.Tag.TheVariants.{This}
-use Rattle.image_defs.specs.Claimed.{ColumnMatches, IsFirstColumn, lists_of}
-use Rattle.image_check.specs.code.Differences.{IsFirstUnprinted, PrintsAt}
-use Rattle.image_check.specs.declared.claims.OnePort.{OnePort}
+use Rattle.image_defs.specs.{Places.IsPort, Places.host_of, Places.printed_of, declared.image.PortImage.PortImage, declared.image.Source.Source}
+use Rattle.image_defs.specs.{Matches.Carries, Claimed.ColumnMatches, Claimed.IsFirstColumn, Claimed.lists_of}
+use Rattle.node_defs.specs.declared.items.{Feed.TheVariants.From, NodeNet.NodeNet, Tag.TheVariants.This}
+use Rattle.image_check.specs.{code.Differences.IsFirstUnprinted, code.Differences.PrintsAt, declared.claims.OnePort.OnePort}
 use Rattle.image_check.proofs.FirstLemmas.{host_there}
 use Rattle.image_check.proofs.places.first_column.Goals as goal
 

@@ -1,6 +1,5 @@
 use Rattle.std.proofs.Common.{◌∙◌, length, ap, sym}
-use Rattle.image_check.proofs.ClaimLemmas.{claims_there}
-use Rattle.image_check.proofs.FirstLemmas.{port_read}
+use Rattle.image_check.proofs.{ClaimLemmas.claims_there, FirstLemmas.port_read}
 use Rattle.image_check.proofs.places.first_in_port.Goals as goal
 
 pub first_slot-requires : goal.first_slot-requires

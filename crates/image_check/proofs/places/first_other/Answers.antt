@@ -1,7 +1,6 @@
 use Rattle.std.proofs.Common.{rules}
 use Rattle.image_check.specs.code.Differences.{AsClaimed}
-use Rattle.image_check.proofs.lemmas.EachLemmas.{each_at_all}
-use Rattle.image_check.proofs.FirstLemmas.{claimed_more, first_other_at}
+use Rattle.image_check.proofs.{lemmas.EachLemmas.each_at_all, FirstLemmas.claimed_more, FirstLemmas.first_other_at}
 use Rattle.image_check.proofs.places.first_other.Goals as goal
 
 pub returns-then-not-is_as_claimed : goal.returns-then-not-is_as_claimed

@@ -1,7 +1,6 @@
 use Rattle.std.specs.Prelude.{IfSome}
 use Rattle.image_defs.specs.Places.{blocks_of}
-use Rattle.image_check.specs.code.Differences.{AsClaimed}
-use Rattle.image_check.specs.code.Memories.{AreSameMemories}
+use Rattle.image_check.specs.code.{Differences.AsClaimed, Memories.AreSameMemories}
 use Rattle.image_check.proofs.lemmas.EachLemmas.{EachAtBelow}
 use Rattle.image_check.proofs.places.first_other.Given as goal
 

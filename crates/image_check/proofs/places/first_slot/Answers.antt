@@ -1,5 +1,4 @@
-use Rattle.std.proofs.Common.{arith}
-use Rattle.std.proofs.lemmas.Option.{slice_get_within}
+use Rattle.std.proofs.{Common.arith, lemmas.Option.slice_get_within}
 use Rattle.image_check.proofs.FirstLemmas.{first_slot_by, no_slot_by}
 use Rattle.image_check.proofs.places.first_slot.Goals as goal
 

@@ -1,9 +1,7 @@
 use Rattle.std.proofs.Common.{◌≡◌, ℕ, Some, slice_get, ap, ◌∙◌, refl, rules}
-use Rattle.image_defs.specs.declared.image.PortImage.{PortImage}
-use Rattle.image_defs.specs.WellFormed.{IsPortImage}
+use Rattle.image_defs.specs.{declared.image.PortImage.PortImage, WellFormed.IsPortImage}
 use Rattle.list_laws.proofs.Places.{indexed}
-use Rattle.image_check.proofs.lemmas.EachLemmas.{each_at_more, each_at_all, no_part}
-use Rattle.image_check.proofs.ShapeLemmas.{shape_of_port}
+use Rattle.image_check.proofs.{lemmas.EachLemmas.each_at_more, lemmas.EachLemmas.each_at_all, lemmas.EachLemmas.no_part, ShapeLemmas.shape_of_port}
 use Rattle.image_check.proofs.ports.are_ports.Goals as goal
 
 pub is_port-requires-clause-shape : goal.is_port-requires-clause-shape

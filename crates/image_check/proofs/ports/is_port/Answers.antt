@@ -1,8 +1,6 @@
 use Rattle.std.proofs.Common.{◌∙◌, ◌<◌, ℕ, subst, sym, rules}
-use Rattle.image_defs.specs.Places.{Each}
-use Rattle.image_defs.specs.WellFormed.{IsPortImage, IsLinkOut}
-use Rattle.image_check.proofs.lemmas.EachLemmas.{no_part}
-use Rattle.image_check.proofs.PortLemmas.{port_by_links}
+use Rattle.image_defs.specs.{Places.Each, WellFormed.IsPortImage, WellFormed.IsLinkOut}
+use Rattle.image_check.proofs.{lemmas.EachLemmas.no_part, PortLemmas.port_by_links}
 use Rattle.image_check.proofs.ports.is_port.Goals as goal
 
 pub returns-then-not-all_below : goal.returns-then-not-all_below

@@ -1,9 +1,7 @@
 use Rattle.std.proofs.Common.{subst, sym, rules}
 use Rattle.image_defs.specs.WellFormed.{IsWellFormed}
-use Rattle.image_check.specs.code.Shapes.{AreRising, AreShapesOf}
-use Rattle.image_check.specs.code.Forms.{IsHostLast}
-use Rattle.image_check.proofs.lemmas.EachLemmas.{no_part}
-use Rattle.image_check.proofs.PortLemmas.{rising_of, image_by_ports}
+use Rattle.image_check.specs.code.{Shapes.AreRising, Shapes.AreShapesOf, Forms.IsHostLast}
+use Rattle.image_check.proofs.{lemmas.EachLemmas.no_part, PortLemmas.rising_of, PortLemmas.image_by_ports}
 use Rattle.image_check.proofs.ports.is_well_formed.Goals as goal
 
 pub returns-then-not-has_numbers : goal.returns-then-not-has_numbers

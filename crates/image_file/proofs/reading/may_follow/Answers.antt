@@ -1,5 +1,4 @@
-use Rattle.std.proofs.Common.{refl, sym, ◌∙◌}
-use Rattle.std.proofs.lemmas.Bool.{and_right}
+use Rattle.std.proofs.{Common.refl, Common.sym, Common.◌∙◌, lemmas.Bool.and_right}
 use Rattle.image_file.specs.Drafts.{has_room}
 use Rattle.image_file.proofs.reading.may_follow.Goals as goal
 use Rattle.image_file.proofs.reading.may_follow.Goals.{then-not-within-via-then-not-within, then-not-within-via-else-not-within+then-not-has_room}

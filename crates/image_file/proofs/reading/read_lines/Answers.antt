@@ -1,7 +1,6 @@
 use Rattle.std.proofs.Common.{◌∙◌, refl, sym, inl, inr, ⊎_elim, add-one, arith}
 use Rattle.std.proofs.lemmas.Result.{err_from_is_err_and}
-use Rattle.image_file.specs.declared.refusal.ImageNo.TheVariants.{Memory as NoMemory}
-use Rattle.image_file.specs.Reading.{file_read}
+use Rattle.image_file.specs.{declared.refusal.ImageNo.TheVariants.Memory as NoMemory, Reading.file_read}
 use Rattle.image_file.proofs.ReadingLemmas.{goes_on, stops, ends, shorter, answered}
 use Rattle.image_file.proofs.reading.read_lines.Goals as goal
 

@@ -1,6 +1,5 @@
 use Rattle.std.specs.List.{flat_map}
-use Rattle.image_defs.specs.declared.image.PortImage.{PortImage}
-use Rattle.image_defs.specs.declared.file.PortClaims.{PortClaims}
+use Rattle.image_defs.specs.declared.{image.PortImage.PortImage, file.PortClaims.PortClaims}
 use Rattle.image_lines.specs.Words.{line_text}
 use Rattle.image_file.specs.Files.{port_lines}
 use Rattle.image_file.proofs.WritingLemmas.{pair_more, pairs_end}

@@ -1,7 +1,6 @@
 use Rattle.std.proofs.Common.{◌≡◌, ◌<◌, ◌-◌, ◌^◌, ℕ, true, min, Option, Some, None, unwrap_or, refl, sym, ap, arith}
+use Rattle.std.proofs.lemmas.{Bool.lt-ltb, Option.none-some}
 use Rattle.std.specs.Option.{option_map}
-use Rattle.std.proofs.lemmas.Bool.{lt-ltb}
-use Rattle.std.proofs.lemmas.Option.{none-some}
 use Rattle.image_lines.specs.Tokens.{capped, plain_number, number_token}
 use Rattle.image_lines.proofs.tokens.number_token.Goals as goal
 

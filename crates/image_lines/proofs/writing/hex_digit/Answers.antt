@@ -1,5 +1,4 @@
-use Rattle.std.proofs.Common.{arith}
-use Rattle.std.proofs.lemmas.Bool.{le-ltb}
+use Rattle.std.proofs.{Common.arith, lemmas.Bool.le-ltb}
 use Rattle.image_lines.proofs.writing.hex_digit.Goals as goal
 
 pub returns-else-digit-lt10 : goal.returns-else-digit-lt10

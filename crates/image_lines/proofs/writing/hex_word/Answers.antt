@@ -1,5 +1,4 @@
-use Rattle.std.proofs.Common.{◌∙◌}
-use Rattle.std.proofs.lemmas.List.{length-set}
+use Rattle.std.proofs.{Common.◌∙◌, lemmas.List.length-set}
 use Rattle.image_lines.specs.Words.{hex_digits}
 use Rattle.image_lines.proofs.WritingLemmas.{one_more}
 use Rattle.image_lines.proofs.writing.hex_word.Goals as goal

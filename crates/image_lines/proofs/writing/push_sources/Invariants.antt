@@ -1,7 +1,6 @@
 use Rattle.std.proofs.Common.{◌≡◌, ◌++◌, take}
 use Rattle.std.specs.List.{flat_map}
-use Rattle.image_lines.specs.Words.{source_word}
-use Rattle.image_lines.specs.code.Words.{spaced}
+use Rattle.image_lines.specs.{Words.source_word, code.Words.spaced}
 use Rattle.image_lines.proofs.writing.push_sources.Given as goal
 
 abbrev pub invariant-loop-source : goal.invariant-loop-source

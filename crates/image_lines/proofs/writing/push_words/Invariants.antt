@@ -1,7 +1,6 @@
 use Rattle.std.proofs.Common.{◌≡◌, ◌++◌, take}
 use Rattle.std.specs.List.{flat_map}
-use Rattle.image_lines.specs.Words.{hex_digits}
-use Rattle.image_lines.specs.code.Words.{spaced}
+use Rattle.image_lines.specs.{Words.hex_digits, code.Words.spaced}
 use Rattle.image_lines.proofs.writing.push_words.Given as goal
 
 abbrev pub invariant-loop-word : goal.invariant-loop-word

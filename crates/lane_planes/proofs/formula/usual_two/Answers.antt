@@ -1,8 +1,8 @@
 use Rattle.std.proofs.Common.{◌<◌, ◌∙◌, arith}
 use Rattle.limits.specs.declared.TheConstants.{LANES}
 use Rattle.lane_planes.specs.Formula.{turns_operands, turns_answer, is_parity}
-use Rattle.lane_planes.proofs.lemmas.LaneLemmas.{lane_is}
 use Rattle.lane_planes.proofs.FormulaLemmas.{mask_word, pair_bits, pair_high, pair_low}
+use Rattle.lane_planes.proofs.lemmas.LaneLemmas.{lane_is}
 use Rattle.lane_planes.proofs.formula.usual_two.Goals as goal
 
 pub invariant_of-result : goal.invariant_of-result

@@ -1,6 +1,4 @@
-use Rattle.std.proofs.Common.{List, ℕ, ap}
-use Rattle.std.proofs.lemmas.Slice.Eq.{slice_eq-Decides}
-use Rattle.std.proofs.lemmas.Bool.Decides.{Decides-eqb}
+use Rattle.std.proofs.{Common.List, Common.ℕ, Common.ap, lemmas.Slice.Eq.slice_eq-Decides, lemmas.Bool.Decides.Decides-eqb}
 use Rattle.func_table.specs.declared.table.Table.{Table}
 use Rattle.lane_planes.proofs.tables.is_equal.Goals as goal
 

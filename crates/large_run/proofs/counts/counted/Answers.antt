@@ -1,7 +1,6 @@
 use Rattle.std.proofs.Common.{ap, arith, length, take}
-use Rattle.large_run.proofs.SummaryLemmas.{total}
+use Rattle.large_run.proofs.{SummaryLemmas.total, CellLemmas.room_left, CellLemmas.total_counts}
 use Rattle.large_run.specs.code.Rows.{cells_in}
-use Rattle.large_run.proofs.CellLemmas.{room_left, total_counts}
 use Rattle.large_run.proofs.counts.counted.Goals as goal
 
 pub add-requires : goal.add-requires

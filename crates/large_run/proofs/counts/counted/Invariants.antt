@@ -1,6 +1,5 @@
 use Rattle.std.proofs.Common.{◌≡◌, take}
-use Rattle.large_run.specs.Summaries.{counts_of}
-use Rattle.large_run.specs.code.Rows.{cells_in}
+use Rattle.large_run.specs.{Summaries.counts_of, code.Rows.cells_in}
 use Rattle.large_run.proofs.counts.counted.Given as goal
 
 abbrev pub invariant-rows : goal.invariant-rows

@@ -1,8 +1,6 @@
 use Rattle.home_pick.proofs.HomeLemmas.{homes_are}
-use Rattle.large_run.specs.Large.{large_netlist}
-use Rattle.large_run.proofs.ValidLemmas.{valid_large}
-use Rattle.large_run.specs.Setting.{large_machine, large_timing}
-use Rattle.large_run.proofs.SettingLemmas.{machine_valid}
+use Rattle.large_run.specs.{Large.large_netlist, Setting.large_machine, Setting.large_timing}
+use Rattle.large_run.proofs.{ValidLemmas.valid_large, SettingLemmas.machine_valid}
 use Rattle.large_run.proofs.design.figures.Goals as goal
 
 pub crossings-requires : goal.crossings-requires

@@ -1,8 +1,7 @@
 use Rattle.std.proofs.Common.{ap, subst, ◌∙◌}
-use Rattle.large_run.specs.Large.{large_stimulus}
+use Rattle.large_run.specs.{Large.large_stimulus, Setting.large_machine, Setting.large_timing}
 use Rattle.net_defs.specs.declared.netlist.Netlist.{Netlist}
 use Rattle.yse_compile.specs.Compiled.{IsCompiled, ShowsReference}
-use Rattle.large_run.specs.Setting.{large_machine, large_timing}
 use Rattle.large_run.proofs.design.large_design.Goals as goal
 
 pub large_net-requires : goal.large_net-requires

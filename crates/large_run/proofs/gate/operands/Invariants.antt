@@ -1,6 +1,5 @@
 use Rattle.std.proofs.Common.{◌≡◌, ◌<◌}
-use Rattle.large_run.specs.Draws.{draw}
-use Rattle.large_run.specs.Large.{operands}
+use Rattle.large_run.specs.{Draws.draw, Large.operands}
 use Rattle.large_run.proofs.gate.operands.Given as goal
 
 abbrev pub invariant-places : goal.invariant-places

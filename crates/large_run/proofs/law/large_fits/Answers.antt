@@ -1,11 +1,8 @@
 use Rattle.std.proofs.Common.{inl, inr, arith}
-use Rattle.large_run.specs.Large.{large_netlist}
-use Rattle.large_run.proofs.ValidLemmas.{no_circle_large, valid_large}
-use Rattle.yse_compile.specs.declared.compiler.CompNo.{CompNo}
+use Rattle.large_run.specs.{Large.large_netlist, Setting.large_machine, Setting.large_timing}
+use Rattle.large_run.proofs.{ValidLemmas.no_circle_large, ValidLemmas.valid_large, SettingLemmas.large_room, SettingLemmas.machine_valid}
+use Rattle.yse_compile.specs.{declared.compiler.CompNo.CompNo, Compiled.IsOverfull, Compiled.IsRight}
 use Rattle.yse_compile.specs.declared.compiler.CompNo.TheVariants as no
-use Rattle.yse_compile.specs.Compiled.{IsOverfull, IsRight}
-use Rattle.large_run.specs.Setting.{large_machine, large_timing}
-use Rattle.large_run.proofs.SettingLemmas.{large_room, machine_valid}
 use Rattle.large_run.proofs.law.large_fits.Goals as goal
 
 pub returns : goal.returns

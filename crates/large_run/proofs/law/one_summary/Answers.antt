@@ -1,17 +1,12 @@
 use Rattle.std.proofs.Common.{◌≡◌, ◌∙◌, ◌-◌, length, refl, sym, ap, subst, arith}
 use Rattle.home_pick.proofs.HomeLemmas.{homes_are}
-use Rattle.large_run.specs.Large.{gate_state, large_netlist, large_stimulus}
-use Rattle.large_run.specs.Summaries.{summary_text}
+use Rattle.large_run.specs.{Large.gate_state, Large.large_netlist, Large.large_stimulus, Summaries.summary_text, Runs.cells_to, Runs.summary_of}
+use Rattle.large_run.specs.Setting.{large_machine, large_timing}
 use Rattle.large_run.proofs.ValidLemmas.{no_circle_large, valid_large}
-use Rattle.net_defs.specs.Reference.{HasOneSimulation}
-use Rattle.net_defs.specs.Steps.{State}
+use Rattle.large_run.proofs.{OneLemmas.crossings_kept, OneLemmas.crossings_there, OneLemmas.one_summary as same_summary, SettingLemmas.machine_valid}
+use Rattle.net_defs.specs.{Reference.HasOneSimulation, Steps.State}
 use Rattle.std.specs.Prelude.{List}
 use Rattle.plan_text.specs.Counted.{AreCrossings}
-use Rattle.large_run.specs.Runs.{cells_to, summary_of}
-use Rattle.large_run.specs.Setting.{large_machine, large_timing}
-use Rattle.large_run.proofs.OneLemmas.{crossings_kept, crossings_there}
-use Rattle.large_run.proofs.OneLemmas.{one_summary as same_summary}
-use Rattle.large_run.proofs.SettingLemmas.{machine_valid}
 use Rattle.large_run.proofs.law.one_summary.Goals as goal
 
 pub returns-clause-some : goal.returns-clause-some

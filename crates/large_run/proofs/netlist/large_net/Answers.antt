@@ -1,12 +1,9 @@
 use Rattle.std.proofs.Common.{◌≤◌, ◌∙◌, sym, subst}
 use Rattle.std.specs.List.{All}
-use Rattle.net_defs.specs.declared.netlist.Netlist.{Netlist}
-use Rattle.net_defs.specs.declared.netlist.Signal.{Signal}
-use Rattle.net_defs.specs.Loops.{IsCircle}
-use Rattle.net_defs.specs.Valid.{IsValid, operand_count}
+use Rattle.net_defs.specs.{declared.netlist.Netlist.Netlist, declared.netlist.Signal.Signal, Loops.IsCircle, Valid.IsValid, Valid.operand_count}
 use Rattle.large_run.specs.Draws.{IsState}
-use Rattle.large_run.proofs.DrawLemmas.{signals_are, gate_state_is}
 use Rattle.large_run.proofs.ValidLemmas.{net_is, valid_large, large_counts, no_circle_large}
+use Rattle.large_run.proofs.DrawLemmas.{signals_are, gate_state_is}
 use Rattle.large_run.proofs.netlist.large_net.Goals as goal
 
 pub returns-clause-net : goal.returns-clause-net

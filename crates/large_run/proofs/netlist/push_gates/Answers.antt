@@ -1,6 +1,5 @@
 use Rattle.std.proofs.Common.{◌∙◌, ap, refl, sym, append-nil, arith}
-use Rattle.large_run.specs.Draws.{draw}
-use Rattle.large_run.specs.Large.{gate_signal, gate_draws}
+use Rattle.large_run.specs.{Draws.draw, Large.gate_signal, Large.gate_draws}
 use Rattle.large_run.proofs.DrawLemmas.{list_more, gate_state_first, gate_state_more}
 use Rattle.large_run.proofs.netlist.push_gates.Goals as goal
 

@@ -1,14 +1,9 @@
-use Rattle.std.proofs.Common.{inl, subst, sym}
+use Rattle.std.proofs.{Common.inl, Common.subst, Common.sym, lemmas.Result.IfOk-weaker, lemmas.Result.err_from_is_err_and}
 use Rattle.std.specs.Prelude.{List, length, ◌<◌, ◌^◌}
-use Rattle.std.proofs.lemmas.Result.{IfOk-weaker, err_from_is_err_and}
-use Rattle.large_run.specs.Large.{large_netlist}
-use Rattle.large_run.proofs.ValidLemmas.{valid_large}
+use Rattle.large_run.specs.{Large.large_netlist, code.Rows.cells_in, Setting.large_timing}
+use Rattle.large_run.proofs.{ValidLemmas.valid_large, DesignLemmas.columns_large, DesignLemmas.run_few, DesignLemmas.summary_shown}
 use Rattle.machine_run.specs.Shown.{AreShown}
-use Rattle.net_defs.specs.declared.trace.CellRow.{CellRow}
-use Rattle.net_defs.specs.Time.{cycle_count}
-use Rattle.large_run.specs.code.Rows.{cells_in}
-use Rattle.large_run.specs.Setting.{large_timing}
-use Rattle.large_run.proofs.DesignLemmas.{columns_large, run_few, summary_shown}
+use Rattle.net_defs.specs.{declared.trace.CellRow.CellRow, Time.cycle_count}
 use Rattle.large_run.proofs.run.summary_of.Goals as goal
 
 pub run_machine-requires-clause-columns : goal.run_machine-requires-clause-columns

@@ -1,8 +1,6 @@
 use Rattle.std.proofs.Common.{◌≡◌, ◌∙◌, ◌+◌, ◌*◌, [], refl, ap, sym, subst, arith}
-use Rattle.net_defs.specs.declared.stimulus.Stimulus.{Stimulus}
-use Rattle.net_defs.specs.Time.{cycle_count}
-use Rattle.large_run.specs.Draws.{draw}
-use Rattle.large_run.specs.Large.{drawn_row}
+use Rattle.net_defs.specs.{declared.stimulus.Stimulus.Stimulus, Time.cycle_count}
+use Rattle.large_run.specs.{Draws.draw, Large.drawn_row}
 use Rattle.large_run.proofs.DrawLemmas.{draw_none, draw_on, list_more}
 use Rattle.large_run.proofs.ValidLemmas.{rows_are, valid_rows, cycles_large}
 use Rattle.large_run.proofs.stimulus.large_rows.Goals as goal

@@ -1,7 +1,6 @@
 use Rattle.std.proofs.Common.{◌≡◌, ◌*◌, ◌<◌, map}
 use Rattle.std.specs.List.{range_with_len}
-use Rattle.large_run.specs.Draws.{draw}
-use Rattle.large_run.specs.Large.{drawn_row}
+use Rattle.large_run.specs.{Draws.draw, Large.drawn_row}
 use Rattle.large_run.proofs.stimulus.large_rows.Given as goal
 
 abbrev pub invariant-turns : goal.invariant-turns

@@ -1,6 +1,5 @@
 use Rattle.std.proofs.Common.{◌≡◌, ◌<◌}
-use Rattle.large_run.specs.Draws.{draw}
-use Rattle.large_run.specs.Large.{drawn_values}
+use Rattle.large_run.specs.{Draws.draw, Large.drawn_values}
 use Rattle.large_run.proofs.stimulus.values.Given as goal
 
 abbrev pub invariant-columns : goal.invariant-columns

@@ -1,6 +1,5 @@
 use Rattle.std.proofs.Common.{◌*◌, arith}
-use Rattle.logic_four.proofs.lemmas.CodeLemmas.{code_of_small}
-use Rattle.logic_four.proofs.lemmas.PackedLemmas.{replaced, code_in-replaced_same, code_in-replaced_other}
+use Rattle.logic_four.proofs.lemmas.{CodeLemmas.code_of_small, PackedLemmas.replaced, PackedLemmas.code_in-replaced_same, PackedLemmas.code_in-replaced_other}
 use Rattle.logic_four.proofs.packed.with_value.Goals as goal
 
 pub returns-clause-here : goal.returns-clause-here

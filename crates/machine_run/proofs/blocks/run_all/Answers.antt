@@ -1,16 +1,13 @@
 use Rattle.std.proofs.Common.{ap, arith, length, refl, subst, sym, suc, ◌∙◌, ◌≡◌, ◌≢◌, ◌≤◌}
 use Rattle.edge_io.proofs.lemmas.WritingLemmas.{writes_same}
-use Rattle.machine_run.proofs.lemmas.TurnLemmas.{in_place_on}
-use Rattle.machine_run.specs.Crews.{CrewView, rows_at_end, turns_left}
-use Rattle.machine_run.specs.Visits.{AllCanTellTurns}
+use Rattle.machine_run.proofs.RunLemmas.{block_taken, later, no_cycle, over_first, over_more, rows_are, rows_left, stops_in, visits_all, visits_more}
+use Rattle.machine_run.proofs.lemmas.{TurnLemmas.in_place_on, LinesLemmas.lines_begin, LinesLemmas.lines_cut, LinesLemmas.lines_written}
+use Rattle.machine_run.specs.{Crews.CrewView, Crews.rows_at_end, Crews.turns_left, Visits.AllCanTellTurns, Blocks.cycles_of_blocks}
+use Rattle.machine_run.specs.Lines.{cells_shown, lines_between}
 use Rattle.limits.specs.declared.TheConstants.{MAX_CYCLES}
 use Rattle.port_host.specs.Rows.{printed_sources}
 use Rattle.trace_text.specs.Line.{row_room}
 use Rattle.net_defs.specs.Time.{cycle_count}
-use Rattle.machine_run.specs.Blocks.{cycles_of_blocks}
-use Rattle.machine_run.specs.Lines.{cells_shown, lines_between}
-use Rattle.machine_run.proofs.lemmas.LinesLemmas.{lines_begin, lines_cut, lines_written}
-use Rattle.machine_run.proofs.RunLemmas.{block_taken, later, no_cycle, over_first, over_more, rows_are, rows_left, stops_in, visits_all, visits_more}
 use Rattle.machine_run.proofs.blocks.run_all.Goals as goal
 
 pub runs-init : goal.runs-init

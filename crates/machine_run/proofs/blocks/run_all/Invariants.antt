@@ -1,8 +1,7 @@
 use Rattle.std.proofs.Common.{Ok, ℕ, ◌-◌, ◌≡◌}
 use Rattle.edge_io.specs.Writing.{Writes}
 use Rattle.net_defs.specs.Time.{cycle_count}
-use Rattle.machine_run.specs.Blocks.{cycles_of_blocks}
-use Rattle.machine_run.specs.Lines.{cells_shown, lines_between}
+use Rattle.machine_run.specs.{Blocks.cycles_of_blocks, Lines.cells_shown, Lines.lines_between}
 use Rattle.machine_run.proofs.RunLemmas.{AreOver}
 use Rattle.machine_run.proofs.blocks.run_all.Given as goal
 

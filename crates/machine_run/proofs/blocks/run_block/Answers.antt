@@ -1,9 +1,8 @@
 use Rattle.std.proofs.Common.{ap, length, subst, sym, ◌∙◌, ◌≤◌}
 use Rattle.edge_io.specs.Writing.{Writes}
-use Rattle.machine_run.specs.Crews.{CrewView}
+use Rattle.machine_run.specs.{Crews.CrewView, Lines.cells_shown, Lines.lines_between}
 use Rattle.port_host.specs.Rows.{printed_sources}
 use Rattle.trace_text.specs.Line.{row_room}
-use Rattle.machine_run.specs.Lines.{cells_shown, lines_between}
 use Rattle.machine_run.proofs.blocks.run_block.Goals as goal
 
 pub write_rows-requires-clause-room : goal.write_rows-requires-clause-room

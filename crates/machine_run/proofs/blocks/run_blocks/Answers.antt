@@ -1,16 +1,12 @@
 use Rattle.std.proofs.Common.{ap, arith, length, refl, subst, suc, sym, zero, ℕ, ◌+◌, ◌∙◌, ◌≡◌, ◌≤◌}
+use Rattle.std.proofs.lemmas.Result.{err_from_is_err_and}
 use Rattle.std.specs.Result.{OnErr}
 use Rattle.edge_io.proofs.lemmas.WritingLemmas.{writes_same}
-use Rattle.machine_run.proofs.lemmas.RoomLemmas.{can_tell_at_first}
-use Rattle.machine_run.proofs.lemmas.TurnLemmas.{in_place_none}
-use Rattle.std.proofs.lemmas.Result.{err_from_is_err_and}
-use Rattle.machine_run.specs.Crews.{CrewView, at_first, turns_left}
-use Rattle.machine_run.specs.Visits.{AllCanTellTurns}
+use Rattle.machine_run.proofs.lemmas.{RoomLemmas.can_tell_at_first, TurnLemmas.in_place_none}
+use Rattle.machine_run.specs.{Crews.CrewView, Crews.at_first, Crews.turns_left, Visits.AllCanTellTurns}
+use Rattle.machine_run.specs.{Blocks.AreVisitsOfRun, Blocks.block_cycles, Blocks.window_of, Lines.bytes_of_run, Stops.StopsInBlock}
 use Rattle.net_defs.specs.Time.{cycle_count}
 use Rattle.port_host.specs.Rows.{printed_sources}
-use Rattle.machine_run.specs.Blocks.{AreVisitsOfRun, block_cycles, window_of}
-use Rattle.machine_run.specs.Lines.{bytes_of_run}
-use Rattle.machine_run.specs.Stops.{StopsInBlock}
 use Rattle.machine_run.proofs.blocks.run_blocks.Goals as goal
 
 pub returns-in_err-line : goal.returns-in_err-line

@@ -1,10 +1,9 @@
 use Rattle.std.proofs.Common.{ap, arith, ◌∙◌, ◌≡◌}
-use Rattle.std.specs.Io.KnownBytes.{append_known}
 use Rattle.std.proofs.lemmas.Result.{err_from_is_err_and}
+use Rattle.std.specs.Io.KnownBytes.{append_known}
 use Rattle.edge_io.proofs.lemmas.WritingLemmas.{writes_same, writes_stop, writes_then}
-use Rattle.machine_run.proofs.lemmas.TurnLemmas.{in_place_none}
+use Rattle.machine_run.proofs.{lemmas.TurnLemmas.in_place_none, RunLemmas.stops_first, RunLemmas.visits_begin}
 use Rattle.machine_run.specs.Lines.{cells_shown, lines_between}
-use Rattle.machine_run.proofs.RunLemmas.{stops_first, visits_begin}
 use Rattle.machine_run.proofs.blocks.write_run.Goals as goal
 
 pub run_all-requires-clause-room : goal.run_all-requires-clause-room

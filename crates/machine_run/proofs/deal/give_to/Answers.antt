@@ -1,6 +1,4 @@
-use Rattle.std.proofs.Common.{get_or, refl}
-use Rattle.std.proofs.lemmas.Option.{slice_get-get_or}
-use Rattle.std.proofs.lemmas.Result.{on_ok_weaker}
+use Rattle.std.proofs.{Common.get_or, Common.refl, lemmas.Option.slice_get-get_or, lemmas.Result.on_ok_weaker}
 use borrow.Author.Rules.{scaled_Fits}
 use Rattle.machine_run.proofs.deal.give_to.Goals as goal
 

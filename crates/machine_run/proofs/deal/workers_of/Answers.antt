@@ -1,8 +1,7 @@
 use Rattle.std.proofs.Common.{ap, arith, drop, length, refl, subst, sym, ◌%◌, ◌-◌, ◌<◌, ◌∙◌}
 use Rattle.std.proofs.lemmas.List.{take_at}
 use Rattle.machine_run.proofs.DealtLemmas.{more_dealt, none_dealt, passes_less}
-use Rattle.machine_run.specs.Dealt.{AreDealtFrom}
-use Rattle.machine_run.specs.code.Dealt.{HasGained}
+use Rattle.machine_run.specs.{Dealt.AreDealtFrom, code.Dealt.HasGained}
 use Rattle.machine_run.proofs.deal.workers_of.Goals as goal
 
 pub seat-requires : goal.seat-requires

@@ -1,7 +1,6 @@
 use Rattle.std.proofs.Common.{drop, length, subst, sym, ◌∙◌}
 use Rattle.std.proofs.lemmas.List.{take_at}
-use Rattle.machine_run.specs.Shown.{AreShown}
-use Rattle.machine_run.specs.code.Shown.{AreWide}
+use Rattle.machine_run.specs.{Shown.AreShown, code.Shown.AreWide}
 use Rattle.net_defs.specs.Time.{cycle_count}
 use Rattle.port_host.specs.Rows.{printed_sources}
 use Rattle.machine_run.proofs.machine.run_machine.Goals as goal

@@ -1,10 +1,8 @@
 use Rattle.std.proofs.Common.{ap, arith, length, refl, subst, sym, ◌∙◌, ◌≤◌}
 use Rattle.std.proofs.lemmas.Result.{err_from_is_err_and}
-use Rattle.machine_run.specs.Crews.{CrewView, turns_left}
-use Rattle.machine_run.specs.Visits.{AllCanTellTurns}
+use Rattle.machine_run.specs.{Crews.CrewView, Crews.turns_left, Visits.AllCanTellTurns}
 use Rattle.net_defs.specs.Time.{cycle_count}
-use Rattle.machine_run.proofs.lemmas.RoomLemmas.{can_tell_at_first}
-use Rattle.machine_run.proofs.lemmas.TurnLemmas.{in_place_none}
+use Rattle.machine_run.proofs.lemmas.{RoomLemmas.can_tell_at_first, TurnLemmas.in_place_none}
 use Rattle.machine_run.proofs.WholeLemmas.{rows_shown, rows_wide, visits_whole}
 use Rattle.machine_run.proofs.machine.run_rows.Goals as goal
 

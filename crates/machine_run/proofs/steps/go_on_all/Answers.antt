@@ -1,5 +1,4 @@
-use Rattle.std.proofs.Common.{arith, sym, ◌∙◌}
-use Rattle.std.proofs.lemmas.Option.{slice_get-get_or}
+use Rattle.std.proofs.{Common.arith, Common.sym, Common.◌∙◌, lemmas.Option.slice_get-get_or}
 use Rattle.machine_run.specs.code.Moves.{HaveGoneOn}
 use Rattle.machine_run.proofs.MoveLemmas.{first_all, first_more}
 use Rattle.machine_run.proofs.steps.go_on_all.Goals as goal

@@ -1,7 +1,5 @@
 use Rattle.std.proofs.Common.{sym, ap, ◌∙◌, drop, arith}
-use Rattle.std.proofs.lemmas.List.{take_rest}
-use Rattle.std.proofs.lemmas.List.Quantifiers.{position-Some}
-use Rattle.std.proofs.lemmas.List.Sums.{position_or_len_is}
+use Rattle.std.proofs.lemmas.List.{take_rest, Quantifiers.position-Some, Sums.position_or_len_is}
 use Rattle.machine_text.specs.code.Digits.{is_nonzero}
 use Rattle.machine_text.proofs.digits.without_zeros.Goals as goal
 

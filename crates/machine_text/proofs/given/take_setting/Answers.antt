@@ -1,5 +1,4 @@
-use Rattle.std.proofs.Common.{refl, sym}
-use Rattle.std.proofs.lemmas.Option.{cond_some}
+use Rattle.std.proofs.{Common.refl, Common.sym, lemmas.Option.cond_some}
 use Rattle.machine_text.specs.Quantities.{in_range}
 use Rattle.machine_text.proofs.given.take_setting.Goals as goal
 

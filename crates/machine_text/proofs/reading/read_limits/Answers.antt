@@ -1,10 +1,9 @@
 use Rattle.std.proofs.Common.{None, Ok, Some, length, sym, ap, ◌∙◌, inr}
-use Rattle.std.proofs.lemmas.Result.{err_from_is_err_and}
-use Rattle.std.proofs.lemmas.List.{length_push}
+use Rattle.std.proofs.lemmas.{Result.err_from_is_err_and, List.length_push}
 use Rattle.text_lines.specs.Lines.{parts_of}
 use Rattle.machine_text.specs.declared.saying.Says.TheVariants.{Nothing}
-use Rattle.machine_text.proofs.SayingLemmas.{said_numbered}
 use Rattle.machine_text.proofs.KeptLemmas.{kept_none, kept_more, kept_other, kept_fault, kept_all, next}
+use Rattle.machine_text.proofs.SayingLemmas.{said_numbered}
 use Rattle.machine_text.proofs.reading.read_limits.Goals as goal
 
 pub loop-line-init : goal.loop-line-init

@@ -2,8 +2,7 @@ use Rattle.std.proofs.Common.{◌≡◌, sym, ap, ◌∙◌, ⊎_elim, inl, inr,
 use Rattle.std.proofs.lemmas.Result.{err_from_is_err_and}
 use Rattle.text_lines.proofs.lemmas.AnswerLemmas.{none_is_not_some}
 use Rattle.machine_text.specs.declared.quantity.Quantity.TheVariants.{Logic, Array}
-use Rattle.machine_text.specs.Settings.{lines_say, settings_of}
-use Rattle.machine_text.specs.Machines.{number_in}
+use Rattle.machine_text.specs.{Settings.lines_say, Settings.settings_of, Machines.number_in}
 use Rattle.machine_text.proofs.LawLemmas.{allowed_from_no_fault, bounds_from_allowed, fault_from_ports, lines_from_reads, no_fault_from_reads, reads_from_parts, valid_from_reads}
 use Rattle.machine_text.proofs.reading.read_machine.Goals as goal
 

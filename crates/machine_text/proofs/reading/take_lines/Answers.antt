@@ -1,9 +1,8 @@
 use Rattle.std.proofs.Common.{None, ◌∙◌, ⊎_elim, inl, inr}
-use Rattle.std.proofs.lemmas.Result.{err_from_is_err_and}
-use Rattle.std.proofs.lemmas.List.{length_push}
+use Rattle.std.proofs.lemmas.{Result.err_from_is_err_and, List.length_push}
 use Rattle.text_lines.specs.Lines.{parts_of}
-use Rattle.machine_text.proofs.SayingLemmas.{said_numbered}
 use Rattle.machine_text.proofs.GivenLemmas.{taken_none, taken_more, taken_fault, taken_all}
+use Rattle.machine_text.proofs.SayingLemmas.{said_numbered}
 use Rattle.machine_text.proofs.reading.take_lines.Goals as goal
 
 pub loop-line-init : goal.loop-line-init

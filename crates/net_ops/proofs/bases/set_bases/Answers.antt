@@ -1,10 +1,7 @@
 use Rattle.std.proofs.Common.{◌∙◌, ◌<◌, ap, refl, length, subst, arith}
 use Rattle.std.proofs.lemmas.List.{length-set}
-use Rattle.net_ops.specs.Lanes.{forced, lane_row}
-use Rattle.net_ops.specs.Schedules.{IsTakenFrom, no_source, source_at}
-use Rattle.net_ops.specs.code.States.{given_value}
-use Rattle.net_ops.proofs.BaseLemmas.{bases_none, bases_more, given_same}
-use Rattle.net_ops.proofs.LaneLemmas.{lane_long, lane_set}
+use Rattle.net_ops.specs.{Lanes.forced, Lanes.lane_row, Schedules.IsTakenFrom, Schedules.no_source, Schedules.source_at, code.States.given_value}
+use Rattle.net_ops.proofs.{BaseLemmas.bases_none, BaseLemmas.bases_more, BaseLemmas.given_same, LaneLemmas.lane_long, LaneLemmas.lane_set}
 use Rattle.net_ops.proofs.bases.set_bases.Goals as goal
 
 pub sources-init : goal.sources-init

@@ -1,6 +1,5 @@
 use Rattle.std.proofs.Common.{◌≡◌, ◌<◌, ℕ, length}
-use Rattle.net_ops.specs.Lanes.{lane_row}
-use Rattle.net_ops.specs.code.States.{AreBases}
+use Rattle.net_ops.specs.{Lanes.lane_row, code.States.AreBases}
 use Rattle.net_ops.proofs.bases.set_bases.Given as goal
 
 abbrev pub invariant-sources : goal.invariant-sources

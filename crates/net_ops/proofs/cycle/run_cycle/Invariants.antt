@@ -1,8 +1,6 @@
 use Rattle.std.proofs.Common.{◌≡◌, ◌*◌, ◌<◌, ◌==◌, ℕ, [], length, slice_index_or}
-use Rattle.net_defs.specs.declared.stimulus.Stimulus.{Stimulus}
-use Rattle.net_defs.specs.Time.{cycle_rows}
-use Rattle.net_ops.specs.States.{lane_state, IsReady, Passes}
-use Rattle.net_ops.specs.code.States.{HasHeld}
+use Rattle.net_defs.specs.{declared.stimulus.Stimulus.Stimulus, Time.cycle_rows}
+use Rattle.net_ops.specs.{States.lane_state, States.IsReady, States.Passes, code.States.HasHeld}
 use Rattle.net_ops.proofs.cycle.run_cycle.Given as goal
 
 abbrev pub invariant-places : goal.invariant-places

@@ -1,8 +1,6 @@
-use Rattle.std.proofs.Common.{sym, subst, arith}
+use Rattle.std.proofs.{Common.sym, Common.subst, Common.arith, lemmas.Result.on_ok_weaker}
 use Rattle.std.specs.List.{Contains}
-use Rattle.std.proofs.lemmas.Result.{on_ok_weaker}
-use Rattle.net_defs.specs.Steps.{is_late}
-use Rattle.net_defs.specs.Loops.{gate_operands}
+use Rattle.net_defs.specs.{Steps.is_late, Loops.gate_operands}
 use Rattle.net_ops.proofs.SequenceLemmas.{base_apart, gate_adds}
 use Rattle.net_ops.proofs.gate_list.push_driven.Goals as goal
 

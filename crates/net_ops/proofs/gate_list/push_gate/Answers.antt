@@ -1,5 +1,4 @@
-use Rattle.std.proofs.Common.{arith}
-use Rattle.std.proofs.lemmas.Result.{on_ok_weaker}
+use Rattle.std.proofs.{Common.arith, lemmas.Result.on_ok_weaker}
 use Rattle.net_ops.proofs.OpLemmas.{one_does, both_do}
 use Rattle.net_ops.proofs.gate_list.push_gate.Goals as goal
 

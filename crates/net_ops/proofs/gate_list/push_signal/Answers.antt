@@ -1,7 +1,6 @@
 use Rattle.std.proofs.Common.{◌≡◌, ◌∙◌, sym, ap, get_or, Some}
+use Rattle.std.proofs.lemmas.{Option.slice_get-get_or, Result.on_ok_weaker}
 use Rattle.std.specs.List.{slice_get}
-use Rattle.std.proofs.lemmas.Option.{slice_get-get_or}
-use Rattle.std.proofs.lemmas.Result.{on_ok_weaker}
 use Rattle.net_ops.proofs.SequenceLemmas.{driver_adds}
 use Rattle.net_ops.proofs.gate_list.push_signal.Goals as goal
 

@@ -1,7 +1,6 @@
 use Rattle.std.proofs.Common.{◌∙◌, ◌∷◌, [], ap, arith}
 use Rattle.std.proofs.lemmas.Result.{on_ok_weaker}
-use Rattle.logic_four.specs.Gates.{gate_value}
-use Rattle.logic_four.specs.Folds.{base_kind}
+use Rattle.logic_four.specs.{Gates.gate_value, Folds.base_kind}
 use Rattle.net_ops.proofs.OpLemmas.{two_do, wide_joins, wide_last}
 use Rattle.net_ops.proofs.gate_list.push_wide.Goals as goal
 

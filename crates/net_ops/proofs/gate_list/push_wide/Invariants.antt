@@ -1,6 +1,5 @@
 use Rattle.std.proofs.Common.{◌+◌, map, take}
-use Rattle.logic_four.specs.Gates.{gate_value}
-use Rattle.logic_four.specs.Folds.{base_kind}
+use Rattle.logic_four.specs.{Gates.gate_value, Folds.base_kind}
 use Rattle.net_defs.specs.Time.{value_at}
 use Rattle.net_ops.specs.code.Sequences.{Adds}
 use Rattle.net_ops.proofs.gate_list.push_wide.Given as goal

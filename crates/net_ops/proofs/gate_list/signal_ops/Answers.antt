@@ -1,6 +1,5 @@
 use Rattle.std.proofs.Common.{arith}
-use Rattle.net_ops.proofs.ScheduleLemmas.{order_reads}
-use Rattle.net_ops.proofs.SequenceLemmas.{settles_more, settles_none}
+use Rattle.net_ops.proofs.{ScheduleLemmas.order_reads, SequenceLemmas.settles_more, SequenceLemmas.settles_none}
 use Rattle.net_ops.proofs.gate_list.signal_ops.Goals as goal
 
 pub push_signal-requires-clause-apart : goal.push_signal-requires-clause-apart

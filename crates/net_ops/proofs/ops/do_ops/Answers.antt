@@ -1,7 +1,6 @@
 use Rattle.std.proofs.Common.{◌∙◌, ap, length, subst, sym}
 use Rattle.std.proofs.lemmas.List.{length-set}
-use Rattle.net_ops.specs.Lanes.{lane_row}
-use Rattle.net_ops.specs.Ops.{IsWithin, do_op}
+use Rattle.net_ops.specs.{Lanes.lane_row, Ops.IsWithin, Ops.do_op}
 use Rattle.net_ops.proofs.OpLemmas.{follow_more, op_done}
 use Rattle.net_ops.proofs.ops.do_ops.Goals as goal
 

@@ -1,6 +1,5 @@
 use Rattle.std.proofs.Common.{◌≡◌, ◌<◌, ℕ, length, take}
-use Rattle.net_ops.specs.Lanes.{lane_row}
-use Rattle.net_ops.specs.Ops.{follow}
+use Rattle.net_ops.specs.{Lanes.lane_row, Ops.follow}
 use Rattle.net_ops.proofs.ops.do_ops.Given as goal
 
 abbrev pub invariant-ops : goal.invariant-ops

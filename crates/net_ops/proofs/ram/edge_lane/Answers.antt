@@ -1,10 +1,8 @@
 use Rattle.std.proofs.Common.{◌∙◌, ap, get_or, refl, sym, arith}
-use Rattle.net_ops.specs.Lanes.{lane_row}
-use Rattle.net_ops.specs.code.Places.{last_row}
+use Rattle.net_ops.specs.{Lanes.lane_row, code.Places.last_row}
 use Rattle.net_ops.proofs.AnswerLemmas.{reads_within, words_same, answers_none, answers_more}
-use Rattle.net_ops.proofs.LaneLemmas.{lane_long}
 use Rattle.net_ops.proofs.Memories.{memory_here, here, shape_here, wrote_more, wrote_none}
-use Rattle.net_ops.proofs.RamLemmas.{fits_here, fits_more}
+use Rattle.net_ops.proofs.{LaneLemmas.lane_long, RamLemmas.fits_here, RamLemmas.fits_more}
 use Rattle.net_ops.proofs.ram.edge_lane.Goals as goal
 
 pub memories-init : goal.memories-init

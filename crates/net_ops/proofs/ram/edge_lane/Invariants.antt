@@ -1,8 +1,5 @@
 use Rattle.std.proofs.Common.{◌≡◌, ◌≢◌, ◌<◌, ℕ, length}
-use Rattle.net_ops.specs.Lanes.{lane_row}
-use Rattle.net_ops.specs.code.Places.{last_row}
-use Rattle.net_ops.specs.Rams.{ArePorts}
-use Rattle.net_ops.specs.code.States.{WroteMemories, Answers}
+use Rattle.net_ops.specs.{Lanes.lane_row, code.Places.last_row, Rams.ArePorts, code.States.WroteMemories, code.States.Answers}
 use Rattle.net_ops.proofs.ram.edge_lane.Given as goal
 
 abbrev pub invariant-memories : goal.invariant-memories

@@ -1,10 +1,7 @@
 use Rattle.std.proofs.Common.{◌∙◌, ◌<◌, [], length, ap, sym, subst, get_or, arith}
 use Rattle.std.proofs.lemmas.List.{length-set, get_or_default, get_or-set_other}
-use Rattle.net_ops.specs.Lanes.{lane_row}
-use Rattle.net_ops.specs.States.{AreShaped}
-use Rattle.net_ops.specs.code.States.{HasActed}
-use Rattle.net_ops.proofs.RamLemmas.{lanes_more}
-use Rattle.net_ops.proofs.lemmas.Writes.{refill_set}
+use Rattle.net_ops.specs.{Lanes.lane_row, States.AreShaped, code.States.HasActed}
+use Rattle.net_ops.proofs.{RamLemmas.lanes_more, lemmas.Writes.refill_set}
 use Rattle.net_ops.proofs.ram.edge_memories.Goals as goal
 
 pub edge_lane-requires-clause-shaped : goal.edge_lane-requires-clause-shaped

@@ -1,7 +1,5 @@
 use Rattle.std.proofs.Common.{◌≡◌, ◌<◌, ◌≤◌, ℕ, [], length, slice_index_or}
-use Rattle.net_ops.specs.Lanes.{lane_row}
-use Rattle.net_ops.specs.Rams.{ArePorts}
-use Rattle.net_ops.specs.code.States.{HasActed}
+use Rattle.net_ops.specs.{Lanes.lane_row, Rams.ArePorts, code.States.HasActed}
 use Rattle.net_ops.proofs.ram.edge_memories.Given as goal
 
 abbrev pub invariant-lanes : goal.invariant-lanes

@@ -1,7 +1,5 @@
 use Rattle.std.proofs.Common.{◌∙◌, ap, subst, sym, length}
-use Rattle.net_ops.specs.Lanes.{lane_row}
-use Rattle.net_ops.specs.code.Rams.{act_over}
-use Rattle.net_ops.specs.code.Values.{IsStagedTo, Puts}
+use Rattle.net_ops.specs.{Lanes.lane_row, code.Rams.act_over, code.Values.IsStagedTo, code.Values.Puts}
 use Rattle.net_ops.proofs.ram.edge_memory.Goals as goal
 
 pub returns-clause-outputs : goal.returns-clause-outputs

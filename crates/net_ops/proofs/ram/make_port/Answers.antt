@@ -1,5 +1,4 @@
-use Rattle.std.proofs.Common.{◌∙◌, ap, length}
-use Rattle.std.proofs.lemmas.List.{length-replicate}
+use Rattle.std.proofs.{Common.◌∙◌, Common.ap, Common.length, lemmas.List.length-replicate}
 use Rattle.net_ops.proofs.ram.make_port.Goals as goal
 
 pub returns : goal.returns

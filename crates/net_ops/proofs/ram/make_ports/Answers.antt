@@ -1,5 +1,4 @@
-use Rattle.std.proofs.Common.{arith}
-use Rattle.std.proofs.lemmas.List.{length_push}
+use Rattle.std.proofs.{Common.arith, lemmas.List.length_push}
 use Rattle.net_ops.proofs.RamLemmas.{ports_push, ports_whole}
 use Rattle.net_ops.proofs.ram.make_ports.Goals as goal
 

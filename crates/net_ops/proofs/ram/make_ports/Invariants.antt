@@ -1,8 +1,7 @@
 use Rattle.std.proofs.Common.{◌≡◌, ℕ, length, Some}
 use Rattle.std.specs.List.{slice_get}
 use Rattle.net_defs.specs.declared.netlist.Block.{Block}
-use Rattle.net_ops.specs.declared.ram.RamPort.{RamPort}
-use Rattle.net_ops.specs.Rams.{FitsPort}
+use Rattle.net_ops.specs.{declared.ram.RamPort.RamPort, Rams.FitsPort}
 use Rattle.net_ops.proofs.ram.make_ports.Given as goal
 
 abbrev pub invariant-loop-block : goal.invariant-loop-block

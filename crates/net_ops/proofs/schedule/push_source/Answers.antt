@@ -1,6 +1,5 @@
 use Rattle.std.proofs.Common.{◌≡◌, ◌∙◌, sym, ap, get_or, Some}
-use Rattle.std.proofs.lemmas.Option.{slice_get-get_or}
-use Rattle.std.proofs.lemmas.Result.{on_ok_weaker}
+use Rattle.std.proofs.lemmas.{Option.slice_get-get_or, Result.on_ok_weaker}
 use Rattle.net_ops.specs.Schedules.{giver_of}
 use Rattle.net_ops.proofs.ScheduleLemmas.{is_source, sources_kept, sources_more}
 use Rattle.net_ops.proofs.schedule.push_source.Goals as goal

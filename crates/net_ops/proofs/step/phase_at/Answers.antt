@@ -1,5 +1,4 @@
-use Rattle.std.proofs.Common.{refl}
-use Rattle.std.proofs.lemmas.Bool.{ne_eqb}
+use Rattle.std.proofs.{Common.refl, lemmas.Bool.ne_eqb}
 use Rattle.net_ops.proofs.step.phase_at.Goals as goal
 
 pub returns-then-is_first : goal.returns-then-is_first

@@ -1,5 +1,4 @@
-use Rattle.std.proofs.Common.{◌∙◌, ◌<◌, arith}
-use Rattle.std.proofs.lemmas.Option.{slice_get_within}
+use Rattle.std.proofs.{Common.◌∙◌, Common.◌<◌, Common.arith, lemmas.Option.slice_get_within}
 use Rattle.net_ops.specs.Lanes.{lane_row}
 use Rattle.net_ops.proofs.BaseLemmas.{sources_edge, sources_start}
 use Rattle.net_ops.proofs.step.set_sources.Goals as goal

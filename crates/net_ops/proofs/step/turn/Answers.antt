@@ -1,9 +1,6 @@
 use Rattle.std.proofs.Common.{◌∙◌, ◌<◌, [], length, get_or, subst, arith}
-use Rattle.net_ops.specs.Lanes.{lane_row}
-use Rattle.net_ops.specs.States.{lane_state}
-use Rattle.net_ops.specs.code.Values.{Keeps}
-use Rattle.net_ops.proofs.LaneLemmas.{lane_keeps, lane_long}
-use Rattle.net_ops.proofs.TurnLemmas.{turn_steps, turn_words, still_shaped}
+use Rattle.net_ops.specs.{Lanes.lane_row, States.lane_state, code.Values.Keeps}
+use Rattle.net_ops.proofs.{LaneLemmas.lane_keeps, LaneLemmas.lane_long, TurnLemmas.turn_steps, TurnLemmas.turn_words, TurnLemmas.still_shaped}
 use Rattle.net_ops.proofs.step.turn.Goals as goal
 
 pub returns-clause-steps : goal.returns-clause-steps

@@ -2,8 +2,7 @@ use Rattle.std.proofs.Common.{◌∙◌, ◌+◌, ap, get_or, set, arith}
 use Rattle.logic_four.specs.declared.V4.TheVariants.{Undef}
 use Rattle.net_defs.specs.Time.{value_at}
 use Rattle.net_ops.specs.Lanes.{lane_row}
-use Rattle.net_ops.proofs.LaneLemmas.{lane_at}
-use Rattle.net_ops.proofs.lemmas.Writes.{map_over}
+use Rattle.net_ops.proofs.{LaneLemmas.lane_at, lemmas.Writes.map_over}
 use Rattle.net_ops.proofs.values.gather.Goals as goal
 
 pub loop-k-preserved : goal.loop-k-preserved

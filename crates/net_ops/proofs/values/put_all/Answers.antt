@@ -1,10 +1,8 @@
 use Rattle.std.proofs.Common.{◌≡◌, ◌∙◌, ap, get_or, length, subst, arith}
 use Rattle.std.proofs.lemmas.List.{length-set, get_or_default}
 use Rattle.logic_four.specs.declared.V4.TheVariants.{Zero, Undef}
-use Rattle.net_ops.specs.Lanes.{lane_row}
-use Rattle.net_ops.specs.code.Values.{Puts}
-use Rattle.net_ops.proofs.LaneLemmas.{lane_kept, lane_set}
-use Rattle.net_ops.proofs.Rows.{puts_more}
+use Rattle.net_ops.specs.{Lanes.lane_row, code.Values.Puts}
+use Rattle.net_ops.proofs.{LaneLemmas.lane_kept, LaneLemmas.lane_set, Rows.puts_more}
 use Rattle.net_ops.proofs.values.put_all.Goals as goal
 
 pub places-preserved : goal.places-preserved

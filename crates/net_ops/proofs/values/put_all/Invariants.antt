@@ -1,7 +1,6 @@
 use Rattle.std.proofs.Common.{◌≡◌, ◌≢◌, ◌<◌, ℕ, length}
 use Rattle.logic_four.specs.declared.V4.{V4}
-use Rattle.net_ops.specs.Lanes.{lane_row}
-use Rattle.net_ops.specs.code.Values.{IsStagedTo, Puts}
+use Rattle.net_ops.specs.{Lanes.lane_row, code.Values.IsStagedTo, code.Values.Puts}
 use Rattle.net_ops.proofs.values.put_all.Given as goal
 
 abbrev pub invariant-places : goal.invariant-places

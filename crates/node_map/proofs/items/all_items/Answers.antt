@@ -1,5 +1,4 @@
-use Rattle.std.proofs.Common.{get_or}
-use Rattle.std.proofs.lemmas.Option.{slice_get-get_or}
+use Rattle.std.proofs.{Common.get_or, lemmas.Option.slice_get-get_or}
 use Rattle.node_map.specs.declared.keys.Key.{Key}
 use Rattle.node_map.proofs.ItemLemmas.{made_more}
 use Rattle.node_map.proofs.items.all_items.Goals as goal

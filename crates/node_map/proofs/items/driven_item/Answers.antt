@@ -1,9 +1,6 @@
 use Rattle.std.proofs.Common.{◌≡◌, ◌∙◌, ap, subst, Some}
-use Rattle.net_defs.specs.declared.netlist.Driver.TheVariants.{Dff}
-use Rattle.net_defs.specs.Valid.{IsDrivable}
-use Rattle.node_map.specs.code.Made.{driver_at}
-use Rattle.node_map.specs.code.Nodes.{IsNodeAt}
-use Rattle.node_map.specs.code.Wires.{operands_of}
+use Rattle.net_defs.specs.{declared.netlist.Driver.TheVariants.Dff, Valid.IsDrivable}
+use Rattle.node_map.specs.code.{Made.driver_at, Nodes.IsNodeAt, Wires.operands_of}
 use Rattle.node_map.proofs.ItemLemmas.{made_input, made_bit, made_latch, made_gate, driver_there}
 use Rattle.node_map.proofs.items.driven_item.Goals as goal
 

@@ -1,7 +1,6 @@
 use Rattle.std.proofs.Common.{◌∙◌, ◌≤◌, length, ap, arith}
 use Rattle.node_map.specs.code.Places.{key_from}
-use Rattle.node_map.proofs.lemmas.ShapeLemmas.{few_groups}
-use Rattle.node_map.proofs.KeyLemmas.{push_step}
+use Rattle.node_map.proofs.{lemmas.ShapeLemmas.few_groups, KeyLemmas.push_step}
 use Rattle.node_map.proofs.keys.push_keys.Goals as goal
 
 pub overflow_add-place-end : goal.overflow_add-place-end

@@ -1,11 +1,8 @@
 use Rattle.std.proofs.Common.{◌≡◌, ◌∙◌, length, ap, subst, arith}
 use Rattle.logic_four.specs.declared.Kind.{Kind}
 use Rattle.logic_four.proofs.lemmas.KindLemmas.{few_operands}
-use Rattle.node_defs.specs.declared.groups.Group.{Group}
-use Rattle.node_defs.specs.Groups.{group_at}
-use Rattle.node_map.specs.code.Wires.{operands_of}
-use Rattle.node_map.specs.code.Nodes.{node_kind, AreFeeds}
-use Rattle.node_map.specs.code.Tables.{HasTable}
+use Rattle.node_defs.specs.{declared.groups.Group.Group, Groups.group_at}
+use Rattle.node_map.specs.code.{Wires.operands_of, Nodes.node_kind, Nodes.AreFeeds, Tables.HasTable}
 use Rattle.node_map.proofs.lemmas.ShapeLemmas.{some_groups, few_groups}
 use Rattle.node_map.proofs.MadeNodeLemmas.{group_shaped, made_node, kind_allowed}
 use Rattle.node_map.proofs.nodes.node.Goals as goal

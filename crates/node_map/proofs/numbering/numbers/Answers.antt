@@ -1,5 +1,4 @@
-use Rattle.std.proofs.Common.{get_or, arith}
-use Rattle.std.proofs.lemmas.Option.{slice_get-get_or}
+use Rattle.std.proofs.{Common.get_or, Common.arith, lemmas.Option.slice_get-get_or}
 use Rattle.node_map.specs.declared.keys.Key.{Key}
 use Rattle.node_map.proofs.NumberLemmas.{numbers_more, numbers_all}
 use Rattle.node_map.proofs.numbering.numbers.Goals as goal

@@ -1,9 +1,7 @@
 use Rattle.std.proofs.Common.{◌≡◌, ◌+◌, [], ◌∷◌, ◌++◌, length, map, subst, arith}
 use Rattle.std.specs.List.{range_with_len}
-use Rattle.node_map.specs.code.Places.{start_of}
-use Rattle.node_map.proofs.KeyLemmas.{start_low, start_next, push_step}
-use Rattle.node_map.proofs.lemmas.ShapeLemmas.{few_groups}
-use Rattle.node_map.specs.code.Wires.{operands_of}
+use Rattle.node_map.specs.code.{Places.start_of, Wires.operands_of}
+use Rattle.node_map.proofs.{KeyLemmas.start_low, KeyLemmas.start_next, KeyLemmas.push_step, lemmas.ShapeLemmas.few_groups}
 use Rattle.node_map.proofs.numbering.starts.Goals as goal
 
 pub overflow_add-next : goal.overflow_add-next

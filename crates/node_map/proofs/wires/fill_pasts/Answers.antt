@@ -3,8 +3,7 @@ use Rattle.std.proofs.lemmas.List.{length-map}
 use Rattle.node_defs.specs.Groups.{groups}
 use Rattle.node_map.specs.code.Wires.{past_of, pasts_to}
 use Rattle.node_map.proofs.lemmas.ShapeLemmas.{some_groups, few_groups, group_within}
-use Rattle.node_map.proofs.PastLemmas.{pasts_length, most_low}
-use Rattle.node_map.proofs.RankLemmas.{operands_low}
+use Rattle.node_map.proofs.{PastLemmas.pasts_length, PastLemmas.most_low, RankLemmas.operands_low}
 use Rattle.node_map.proofs.wires.fill_pasts.Goals as goal
 
 pub overflow_add-place-end : goal.overflow_add-place-end

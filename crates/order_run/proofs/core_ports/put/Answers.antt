@@ -1,5 +1,4 @@
-use Rattle.std.proofs.Common.{set, ap}
-use Rattle.std.proofs.lemmas.Option.{get_or_from_slice_get}
+use Rattle.std.proofs.{Common.set, Common.ap, lemmas.Option.get_or_from_slice_get}
 use Rattle.order_run.proofs.CorePortLemmas.{put_is}
 use Rattle.order_run.proofs.core_ports.put.Goals as goal
 

@@ -1,11 +1,9 @@
 use Rattle.std.proofs.Common.{ap, ap₂, arith, length, subst, sym, ℕ, ◌-◌, ◌/◌, ◌∙◌, ◌≤◌}
 use Rattle.std.proofs.lemmas.Option.{get_or_from_slice_get, slice_get-get_or}
-use Rattle.image_defs.specs.Frames.{shown}
-use Rattle.image_defs.specs.declared.image.Image.{Image}
+use Rattle.image_defs.specs.{Frames.shown, declared.image.Image.Image}
 use Rattle.net_defs.specs.declared.stimulus.Stimulus.{Stimulus}
 use Rattle.port_host.specs.Rows.{printed_sources}
-use Rattle.order_run.specs.code.CorePorts.{IsRowOf}
-use Rattle.order_run.specs.declared.core_ports.CorePort.{CorePort}
+use Rattle.order_run.specs.{code.CorePorts.IsRowOf, declared.core_ports.CorePort.CorePort}
 use Rattle.order_run.proofs.rows.cells.Goals as goal
 
 pub unreachable-requires : goal.unreachable-requires

@@ -1,10 +1,8 @@
-use Rattle.std.proofs.Common.{◌*◌}
-use Rattle.std.proofs.lemmas.Result.{IfOk-weaker}
+use Rattle.std.proofs.{Common.◌*◌, lemmas.Result.IfOk-weaker}
 use Rattle.net_defs.specs.Time.{cycle_count}
 use Rattle.order_run.specs.Core.{state_of}
 use Rattle.stim_text.specs.Orders.{steps_of}
-use Rattle.order_run.proofs.EndLemmas.{rows_in_order}
-use Rattle.order_run.proofs.StepLemmas.{first_steps}
+use Rattle.order_run.proofs.{EndLemmas.rows_in_order, StepLemmas.first_steps}
 use Rattle.order_run.proofs.steps.rows_by_order.Goals as goal
 
 pub returns : goal.returns

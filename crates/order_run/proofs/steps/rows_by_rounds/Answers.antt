@@ -1,6 +1,5 @@
 use Rattle.std.proofs.lemmas.Result.{IfOk-weaker}
-use Rattle.order_run.proofs.EndLemmas.{all_shown}
-use Rattle.order_run.proofs.StepLemmas.{same_sound}
+use Rattle.order_run.proofs.{EndLemmas.all_shown, StepLemmas.same_sound}
 use Rattle.order_run.proofs.steps.rows_by_rounds.Goals as goal
 
 pub returns : goal.returns

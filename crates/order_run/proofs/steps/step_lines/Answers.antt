@@ -1,6 +1,4 @@
-use Rattle.std.proofs.Common.{get_or, refl}
-use Rattle.std.proofs.lemmas.List.{get_or_default}
-use Rattle.std.proofs.lemmas.Option.{slice_get-get_or}
+use Rattle.std.proofs.{Common.get_or, Common.refl, lemmas.List.get_or_default, lemmas.Option.slice_get-get_or}
 use Rattle.order_run.proofs.StepLemmas.{stepped_none, stepped_line, stepped_rest, stepped_there}
 use Rattle.order_run.proofs.steps.step_lines.Goals as goal
 

@@ -1,5 +1,4 @@
-use Rattle.std.specs.Prelude.{take}
-use Rattle.std.specs.List.{flat_map}
+use Rattle.std.specs.{Prelude.take, List.flat_map}
 use Rattle.order_run.specs.code.Stepped.{HasStepped}
 use Rattle.order_run.proofs.StepLemmas.{line_steps}
 use Rattle.order_run.proofs.steps.step_lines.Given as goal

@@ -1,5 +1,4 @@
-use Rattle.std.proofs.Common.{sym}
-use Rattle.std.proofs.Math.Nat.{zero-mod}
+use Rattle.std.proofs.{Common.sym, Math.Nat.zero-mod}
 use Rattle.order_run.proofs.words.first_bank.Goals as goal
 
 pub returns : goal.returns

@@ -1,5 +1,4 @@
-use Rattle.std.proofs.Common.{◌/◌, eq-eqb}
-use Rattle.std.proofs.lemmas.Bool.{eqb-true}
+use Rattle.std.proofs.{Common.◌/◌, Common.eq-eqb, lemmas.Bool.eqb-true}
 use Rattle.order_run.proofs.words.is_of.Goals as goal
 
 pub returns : goal.returns

@@ -1,5 +1,4 @@
-use Rattle.std.proofs.Common.{◌-◌, lt-ltb}
-use Rattle.std.proofs.lemmas.Bool.{ltb-true}
+use Rattle.std.proofs.{Common.◌-◌, Common.lt-ltb, lemmas.Bool.ltb-true}
 use Rattle.order_run.proofs.words.lags.Goals as goal
 
 pub returns : goal.returns

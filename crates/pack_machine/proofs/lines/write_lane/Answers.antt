@@ -1,7 +1,6 @@
 -- The line of the lane is written, then the header of its trace, and then the rows.
 use Rattle.std.proofs.Common.{ap, arith, sym, ◌∙◌}
-use Rattle.std.proofs.lemmas.Option.{slice_get_within}
-use Rattle.std.proofs.lemmas.Result.{err_from_is_err_and}
+use Rattle.std.proofs.lemmas.{Option.slice_get_within, Result.err_from_is_err_and}
 use Rattle.machine_run.specs.Lines.{bytes_of_run, lines_between}
 use Rattle.edge_io.proofs.lemmas.WritingLemmas.{writes_same, writes_stop, writes_then}
 use Rattle.net_defs.specs.Time.{cycle_count}

@@ -1,9 +1,7 @@
 -- Each lane is written after those before it.
 use Rattle.std.proofs.Common.{arith, length, refl, ◌+◌}
+use Rattle.std.proofs.lemmas.{List.FromFn.length-enumerate_from, Result.err_from_is_err_and, Option.slice_get_read}
 use Rattle.std.specs.List.{enumerate_from}
-use Rattle.std.proofs.lemmas.List.FromFn.{length-enumerate_from}
-use Rattle.std.proofs.lemmas.Result.{err_from_is_err_and}
-use Rattle.std.proofs.lemmas.Option.{slice_get_read}
 use Rattle.edge_io.proofs.lemmas.WritingLemmas.{writes_all, writes_ended, writes_more, writes_none}
 use Rattle.pack_machine.specs.Lines.{bytes_of_lane}
 use Rattle.pack_machine.proofs.LineLemmas.{numbered}

@@ -1,8 +1,7 @@
 use Rattle.std.proofs.Common.{Ok, take, ◌+◌}
 use Rattle.std.specs.List.{enumerate_from, flat_map}
 use Rattle.edge_io.specs.Writing.{Writes}
-use Rattle.pack_machine.specs.Lines.{bytes_of_lane}
-use Rattle.pack_machine.specs.code.Lines.{HasLineRoom}
+use Rattle.pack_machine.specs.{Lines.bytes_of_lane, code.Lines.HasLineRoom}
 use Rattle.pack_machine.proofs.lines.write_lanes.Given as goal
 
 abbrev pub invariant-lanes : goal.invariant-lanes

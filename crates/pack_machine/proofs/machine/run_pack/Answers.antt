@@ -1,8 +1,6 @@
 -- The crew can run, and after its run the host has made all turns and the gates were told of them.
 use Rattle.std.proofs.Common.{ap, arith, drop, length, refl, subst, sym, ◌∙◌, ◌≡◌}
-use Rattle.std.proofs.lemmas.List.{take_at}
-use Rattle.std.proofs.lemmas.Option.{slice_get_within}
-use Rattle.std.proofs.lemmas.Result.{err_from_is_err_and}
+use Rattle.std.proofs.lemmas.{List.take_at, Option.slice_get_within, Result.err_from_is_err_and}
 use Rattle.crew_run.specs.Lending.{AllCanRunWith, AllHaveRunWith}
 use Rattle.edge_io.specs.Writing.{Writes}
 use Rattle.image_defs.specs.declared.image.Image.{Image}
@@ -10,15 +8,12 @@ use Rattle.stim_text.specs.Lanes.{AreLanes}
 use Rattle.machine_run.proofs.lemmas.TurnLemmas.{in_place_none}
 use Rattle.port_host.specs.Rows.{printed_sources}
 use Rattle.pack_run.specs.contracts.seated.PackSeatedStepper.TheImpl as seated
-use Rattle.pack_machine.specs.Lines.{bytes_of_lanes}
+use Rattle.pack_machine.specs.{Lines.bytes_of_lanes, code.Crews.at_end, code.Dealt.AreDealt, code.Ends.IsHostAtEnd}
 use Rattle.slot_words.specs.packed.Passes.{IsFirstPass}
-use Rattle.pack_machine.specs.code.Crews.{at_end}
-use Rattle.pack_machine.specs.code.Dealt.{AreDealt}
-use Rattle.pack_machine.specs.code.Ends.{IsHostAtEnd}
 use Rattle.pack_machine.proofs.RunLemmas.{can_run_all, dealt_at_end, have_visits, in_place}
+use Rattle.pack_machine.proofs.machine.run_pack.Goals.{After-as_slice, After-run_with}
 use Rattle.pack_machine.proofs.machine.run_pack.Given as given
 use Rattle.pack_machine.proofs.machine.run_pack.Goals as goal
-use Rattle.pack_machine.proofs.machine.run_pack.Goals.{After-as_slice, After-run_with}
 
 pub run_with-requires-after_bounds : goal.run_with-requires-after_bounds
 run_with-requires-after_bounds g c κs within =

@@ -1,5 +1,4 @@
-use Rattle.std.proofs.Common.{◌∙◌, refl, arith}
-use Rattle.std.proofs.lemmas.List.{length-set}
+use Rattle.std.proofs.{Common.◌∙◌, Common.refl, Common.arith, lemmas.List.length-set}
 use Rattle.pack_walk.proofs.FeedLemmas.{have_column, fed_more}
 use Rattle.pack_walk.proofs.feed.fill.Goals as goal
 

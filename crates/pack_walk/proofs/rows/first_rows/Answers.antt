@@ -1,7 +1,6 @@
 use Rattle.std.proofs.Common.{length, refl, ap, ◌∙◌, arith}
-use Rattle.std.proofs.lemmas.Option.{slice_get_read}
+use Rattle.std.proofs.lemmas.{Option.slice_get_read, List.length_push}
 use Rattle.net_defs.specs.declared.stimulus.Stimulus.{Stimulus}
-use Rattle.std.proofs.lemmas.List.{length_push}
 use Rattle.pack_walk.proofs.CursorLemmas.{one_more}
 use Rattle.pack_walk.proofs.rows.first_rows.Goals as goal
 

@@ -1,7 +1,6 @@
 use Rattle.std.specs.Prelude.{◌≡◌, ℕ, length, Some, slice_get}
 use Rattle.net_defs.specs.declared.stimulus.Stimulus.{Stimulus}
-use Rattle.port_host.specs.declared.cursor.RowCursor.{RowCursor}
-use Rattle.port_host.specs.Rows.{IsAt}
+use Rattle.port_host.specs.{declared.cursor.RowCursor.RowCursor, Rows.IsAt}
 use Rattle.pack_walk.proofs.rows.first_rows.Given as goal
 
 abbrev pub invariant-lanes : goal.invariant-lanes

@@ -1,6 +1,5 @@
 use Rattle.std.proofs.Common.{◌∙◌, refl, subst, arith}
-use Rattle.std.proofs.lemmas.Option.{slice_get_read, slice_get-get_or}
-use Rattle.std.proofs.lemmas.List.{length-set}
+use Rattle.std.proofs.lemmas.{Option.slice_get_read, Option.slice_get-get_or, List.length-set}
 use Rattle.net_defs.specs.declared.stimulus.Stimulus.{Stimulus}
 use Rattle.pack_walk.specs.code.Feeds.{AreMoved}
 use Rattle.pack_walk.proofs.CursorLemmas.{none_moved, moved_more, all_moved}

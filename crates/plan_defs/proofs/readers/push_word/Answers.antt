@@ -1,8 +1,6 @@
 use Rattle.std.proofs.Common.{◌≡◌, ◌≢◌, ◌+◌, ◌*◌, subst, arith}
-use Rattle.plan_defs.specs.Bits.{HasBit}
-use Rattle.plan_defs.specs.code.Lists.{ListsBelow}
-use Rattle.plan_defs.proofs.ListLemmas.{listed_past}
-use Rattle.plan_defs.proofs.ReaderLemmas.{word_none}
+use Rattle.plan_defs.specs.{Bits.HasBit, code.Lists.ListsBelow}
+use Rattle.plan_defs.proofs.{ListLemmas.listed_past, ReaderLemmas.word_none}
 use Rattle.plan_defs.proofs.readers.push_word.Goals as goal
 
 pub bits-init : goal.bits-init

@@ -1,6 +1,5 @@
 use Rattle.std.proofs.Common.{◌≢◌, ◌+◌, ◌*◌}
-use Rattle.plan_defs.specs.Bits.{HasBit}
-use Rattle.plan_defs.specs.code.Lists.{ListsBelow}
+use Rattle.plan_defs.specs.{Bits.HasBit, code.Lists.ListsBelow}
 use Rattle.plan_defs.proofs.readers.push_word.Given as goal
 
 abbrev pub invariant-bits : goal.invariant-bits

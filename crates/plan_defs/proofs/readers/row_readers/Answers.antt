@@ -1,6 +1,5 @@
 use Rattle.std.proofs.Common.{◌≡◌, ◌≢◌, ◌+◌, ◌*◌, subst, arith}
-use Rattle.plan_defs.specs.Bits.{HasBit}
-use Rattle.plan_defs.specs.code.Lists.{ListsBelow}
+use Rattle.plan_defs.specs.{Bits.HasBit, code.Lists.ListsBelow}
 use Rattle.plan_defs.proofs.ListLemmas.{listed_all}
 use Rattle.plan_defs.proofs.readers.row_readers.Goals as goal
 

@@ -1,5 +1,4 @@
-use Rattle.std.proofs.Common.{get_or, arith}
-use Rattle.std.proofs.lemmas.List.Elements.{Contains-get_or}
+use Rattle.std.proofs.{Common.get_or, Common.arith, lemmas.List.Elements.Contains-get_or}
 use Rattle.plan_defs.proofs.UserLemmas.{place_kept, among_more, among_all}
 use Rattle.plan_defs.proofs.users.mark_list.Goals as goal
 

@@ -1,7 +1,6 @@
 use Rattle.std.proofs.Common.{◌≡◌, inl, inr, refl, subst}
 use Rattle.std.specs.List.{Contains}
-use Rattle.plan_defs.specs.Bits.{Adds, IsShaped}
-use Rattle.plan_defs.specs.Homes.{host_of}
+use Rattle.plan_defs.specs.{Bits.Adds, Bits.IsShaped, Homes.host_of}
 use Rattle.plan_defs.proofs.UserLemmas.{place_kept, user_place, users_are}
 use Rattle.plan_defs.proofs.users.users.Goals as goal
 

@@ -1,9 +1,8 @@
 use Rattle.std.proofs.Common.{◌∙◌, ◌+◌, ◌<◌, length, get_or, refl, ap, arith, take}
-use Rattle.std.specs.Prelude.{◌==◌}
-use Rattle.std.specs.List.{count_by}
-use Rattle.list_laws.proofs.Ranges.{replicate_read}
 use Rattle.std.proofs.lemmas.List.{length-replicate, length-set, length-take, take_all}
 use Rattle.std.proofs.lemmas.List.Sums.{count_by-le-length}
+use Rattle.std.specs.{Prelude.◌==◌, List.count_by}
+use Rattle.list_laws.proofs.Ranges.{replicate_read}
 use Rattle.plan_defs.specs.Homes.{ports_of}
 use Rattle.plan_defs.proofs.lemmas.PortLemmas.{home_port}
 use Rattle.plan_text.proofs.FigureLemmas.{raised}

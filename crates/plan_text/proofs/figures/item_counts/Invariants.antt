@@ -1,6 +1,5 @@
 use Rattle.std.proofs.Common.{◌≡◌, ℕ, ◌<◌, length, take, get_or}
-use Rattle.std.specs.Prelude.{◌==◌}
-use Rattle.std.specs.List.{count_by}
+use Rattle.std.specs.{Prelude.◌==◌, List.count_by}
 use Rattle.plan_defs.specs.Homes.{ports_of}
 use Rattle.plan_text.proofs.figures.item_counts.Given as goal
 

@@ -1,5 +1,4 @@
-use Rattle.std.proofs.Common.{sym, ◌∙◌}
-use Rattle.std.proofs.lemmas.List.{take_more, map-append}
+use Rattle.std.proofs.{Common.sym, Common.◌∙◌, lemmas.List.take_more, lemmas.List.map-append}
 use Rattle.plan_text.proofs.figures.receipt_counts.Goals as goal
 
 pub loop-links-preserved : goal.loop-links-preserved

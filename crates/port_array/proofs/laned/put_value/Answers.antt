@@ -1,6 +1,5 @@
 use Rattle.std.proofs.Common.{◌∙◌, get_or, set, ap}
-use Rattle.std.proofs.lemmas.List.{map-set}
-use Rattle.std.proofs.Math.Seq.{map-set_same}
+use Rattle.std.proofs.{lemmas.List.map-set, Math.Seq.map-set_same}
 use Rattle.lane_planes.specs.Lanes.{lane_of}
 use Rattle.port_array.specs.code.Rows.{lane_row}
 use Rattle.port_array.proofs.laned.put_value.Goals as goal

@@ -1,11 +1,8 @@
 use Rattle.std.proofs.Common.{◌≡◌, ◌∙◌, ◌<◌, length, get_or, slice_get, Some, sym, ap, arith}
-use Rattle.std.proofs.lemmas.List.{length-map, get_or-map}
-use Rattle.std.proofs.lemmas.Option.{slice_get-get_or}
-use Rattle.logic_four.specs.declared.V4.TheVariants.{Undef}
-use Rattle.logic_four.specs.Values.{value_at}
+use Rattle.std.proofs.lemmas.{List.length-map, List.get_or-map, Option.slice_get-get_or}
+use Rattle.logic_four.specs.{declared.V4.TheVariants.Undef, Values.value_at}
 use Rattle.image_defs.specs.Steps.{value_of_member}
-use Rattle.port_array.specs.declared.memory.MemoryState.{MemoryState}
-use Rattle.port_array.specs.Lanes.{lane_memory}
+use Rattle.port_array.specs.{declared.memory.MemoryState.MemoryState, Lanes.lane_memory}
 use Rattle.port_array.proofs.LaneMemories.{lane_long, lane_there}
 use Rattle.port_array.proofs.memory.answered.Goals as goal
 

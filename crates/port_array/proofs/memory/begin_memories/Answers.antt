@@ -1,5 +1,4 @@
-use Rattle.std.proofs.Common.{◌∙◌, sym}
-use Rattle.std.proofs.lemmas.Bool.{false≢true}
+use Rattle.std.proofs.{Common.◌∙◌, Common.sym, lemmas.Bool.false≢true}
 use Rattle.port_array.proofs.memory.begin_memories.Goals as goal
 
 pub returns-then-is_edge-clause-same : goal.returns-then-is_edge-clause-same

@@ -1,5 +1,4 @@
-use Rattle.port_array.specs.Lanes.{IsWhole}
-use Rattle.port_array.specs.code.Lanes.{HasActed}
+use Rattle.port_array.specs.{Lanes.IsWhole, code.Lanes.HasActed}
 use Rattle.port_array.proofs.memory.edge.Given as goal
 
 abbrev pub invariant-lanes : goal.invariant-lanes

@@ -1,7 +1,6 @@
 use Rattle.std.proofs.Common.{◌≡◌, get_or, slice_get, Some, arith}
 use Rattle.std.proofs.lemmas.Option.{slice_get-get_or}
-use Rattle.port_array.proofs.MemoryLemmas.{member_at}
-use Rattle.port_array.proofs.LaneMemories.{whole_more, have_more}
+use Rattle.port_array.proofs.{MemoryLemmas.member_at, LaneMemories.whole_more, LaneMemories.have_more}
 use Rattle.port_array.proofs.memory.edge_all.Goals as goal
 
 pub edge-requires-clause-past : goal.edge-requires-clause-past

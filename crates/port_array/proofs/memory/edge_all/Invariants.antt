@@ -1,5 +1,4 @@
-use Rattle.port_array.specs.Lanes.{AreWhole}
-use Rattle.port_array.specs.code.Lanes.{HaveActed}
+use Rattle.port_array.specs.{Lanes.AreWhole, code.Lanes.HaveActed}
 use Rattle.port_array.proofs.memory.edge_all.Given as goal
 
 abbrev pub invariant-all : goal.invariant-all

@@ -1,9 +1,8 @@
 use Rattle.std.proofs.Common.{◌≡◌, ◌∙◌, [], length, get_or, sym, ap, refl, arith}
 use Rattle.std.proofs.lemmas.List.{length-map, length-set, get_or-set_same, get_or-set_other}
 use Rattle.logic_four.specs.Memory.{memory_act}
-use Rattle.port_array.specs.code.Acts.{past_of, act_at}
+use Rattle.port_array.specs.{code.Acts.past_of, code.Acts.act_at, Lanes.lane_memory}
 use Rattle.image_defs.specs.Ports.{lane_port}
-use Rattle.port_array.specs.Lanes.{lane_memory}
 use Rattle.port_array.proofs.LaneMemories.{lane_long, whole_after}
 use Rattle.port_array.proofs.memory.edge_lane.Given as given
 use Rattle.port_array.proofs.memory.edge_lane.Goals as goal

@@ -1,7 +1,6 @@
 use Rattle.std.proofs.Common.{◌∙◌, ◌+◌, ap, arith}
 use Rattle.std.proofs.lemmas.List.{length_push}
-use Rattle.port_array.proofs.MemoryLemmas.{member_at}
-use Rattle.port_array.proofs.LaneMemories.{first_more}
+use Rattle.port_array.proofs.{MemoryLemmas.member_at, LaneMemories.first_more}
 use Rattle.port_array.proofs.memory.make_memories.Goals as goal
 
 pub make_memory-requires : goal.make_memory-requires

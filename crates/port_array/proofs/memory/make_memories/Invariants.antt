@@ -1,7 +1,6 @@
 use Rattle.std.proofs.Common.{◌≡◌, ℕ, length, slice_get, Some}
 use Rattle.image_defs.specs.declared.image.BlockWork.{BlockWork}
-use Rattle.port_array.specs.declared.memory.MemoryState.{MemoryState}
-use Rattle.port_array.specs.code.Lanes.{IsFirst}
+use Rattle.port_array.specs.{declared.memory.MemoryState.MemoryState, code.Lanes.IsFirst}
 use Rattle.port_array.proofs.memory.make_memories.Given as goal
 
 abbrev pub invariant-each : goal.invariant-each

@@ -1,5 +1,4 @@
-use Rattle.std.proofs.Common.{◌∙◌, ap, length}
-use Rattle.std.proofs.lemmas.List.{length-replicate}
+use Rattle.std.proofs.{Common.◌∙◌, Common.ap, Common.length, lemmas.List.length-replicate}
 use Rattle.port_array.proofs.LaneMemories.{first_of}
 use Rattle.port_array.proofs.memory.make_memory.Goals as goal
 

@@ -1,9 +1,7 @@
 use Rattle.std.proofs.Common.{◌∙◌, sym, ap}
-use Rattle.image_defs.specs.Steps.{value_of_member, past_value}
+use Rattle.image_defs.specs.{Steps.value_of_member, Steps.past_value, Ports.lane_port}
 use Rattle.port_bank.specs.Reads.{past_in, IsTaken}
-use Rattle.port_bank.proofs.lemmas.LaneLemmas.{in_lane}
-use Rattle.port_bank.proofs.lemmas.TurnLemmas.{past_at_hand, past_taken}
-use Rattle.image_defs.specs.Ports.{lane_port}
+use Rattle.port_bank.proofs.lemmas.{LaneLemmas.in_lane, TurnLemmas.past_at_hand, TurnLemmas.past_taken}
 use Rattle.port_array.proofs.memory.take_past.Goals as goal
 
 pub returns : goal.returns

@@ -1,5 +1,4 @@
-use Rattle.std.proofs.Common.{arith}
-use Rattle.std.proofs.lemmas.Option.{slice_get-get_or}
+use Rattle.std.proofs.{Common.arith, lemmas.Option.slice_get-get_or}
 use Rattle.port_logic.proofs.OpLemmas.{forms_more}
 use Rattle.port_logic.proofs.op.forms_of.Goals as goal
 

@@ -3,8 +3,8 @@ use Rattle.std.proofs.lemmas.Option.{slice_get-get_or}
 use Rattle.port_bank.specs.Flat.{IsWithin}
 use Rattle.port_logic.specs.Ops.{IsFormIn}
 use Rattle.port_logic.proofs.OpLemmas.{look_is}
-use Rattle.port_logic.proofs.op.gate_of.Goals as goal
 use Rattle.port_logic.proofs.op.gate_of.Goals.{in-Const+in-Const-d+in_default-pair_of, in-Const+in_default-d, in_default}
+use Rattle.port_logic.proofs.op.gate_of.Goals as goal
 
 pub pair_of-requires : goal.pair_of-requires
 pair_of-requires g c = subst (λ table. IsFormIn g.W.Word.is_form table c.args.form) (slice_get-get_or c.args.tables.now c.args.table _ c.requires.tabled) c.requires.form

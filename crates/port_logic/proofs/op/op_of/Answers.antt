@@ -1,7 +1,6 @@
 use Rattle.std.proofs.Common.{◌<◌, length, subst, sym, arith}
 use Rattle.std.proofs.lemmas.Option.{slice_get_read}
-use Rattle.port_logic.specs.Ops.{IsOp}
-use Rattle.port_logic.specs.code.Ops.{IsTabled, IsTaskWithin}
+use Rattle.port_logic.specs.{Ops.IsOp, code.Ops.IsTabled, code.Ops.IsTaskWithin}
 use Rattle.port_logic.proofs.op.op_of.Goals as goal
 
 pub bounds-forms-table : goal.bounds-forms-table

@@ -1,5 +1,4 @@
-use Rattle.std.proofs.Common.{subst, arith}
-use Rattle.std.proofs.lemmas.Option.{slice_get-get_or}
+use Rattle.std.proofs.{Common.subst, Common.arith, lemmas.Option.slice_get-get_or}
 use Rattle.port_logic.specs.Ops.{AreOpsOf}
 use Rattle.port_logic.proofs.OpLemmas.{ops_more, ops_none}
 use Rattle.port_logic.proofs.op.ops_of.Goals as goal

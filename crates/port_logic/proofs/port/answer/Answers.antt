@@ -3,12 +3,9 @@ use Rattle.std.proofs.lemmas.Option.{slice_get-get_or}
 use Rattle.logic_four.specs.Values.{settled}
 use Rattle.func_table.specs.Entries.{entry_for}
 use Rattle.image_defs.specs.Ports.{lane_port}
-use Rattle.port_bank.specs.Flat.{place_count}
-use Rattle.port_bank.specs.Reads.{IsHeld, IsRead}
+use Rattle.port_bank.specs.{Flat.place_count, Reads.IsHeld, Reads.IsRead}
 use Rattle.port_bank.proofs.lemmas.LaneLemmas.{in_lane}
-use Rattle.port_logic.specs.Ops.{IsFormIn}
-use Rattle.port_logic.specs.code.Ops.{FitsOp}
-use Rattle.port_logic.specs.code.Tasks.{IsAnswer}
+use Rattle.port_logic.specs.{Ops.IsFormIn, code.Ops.FitsOp, code.Tasks.IsAnswer}
 use Rattle.port_logic.proofs.OpLemmas.{keep_right, look_right, pair_right}
 use Rattle.port_logic.proofs.port.answer.Goals as goal
 

@@ -1,6 +1,5 @@
 use Rattle.std.proofs.Common.{◌∙◌, ap, subst, sym, ◌≡◌, length, Some, arith}
-use Rattle.image_defs.specs.Ports.{at_first}
-use Rattle.image_defs.specs.WellFormed.{IsHost, IsLogic, IsArray}
+use Rattle.image_defs.specs.{Ports.at_first, WellFormed.IsHost, WellFormed.IsLogic, WellFormed.IsArray}
 use Rattle.image_defs.specs.declared.image.Work.TheVariants.{Logic, Array}
 use Rattle.port_walk.proofs.lemmas.KindLemmas.{port_image_there, host_last, host_number, rows_first, none_first}
 use Rattle.port_walk.proofs.kind.first_kind.Goals as goal

@@ -1,8 +1,7 @@
 use Rattle.std.proofs.Common.{◌≡◌, ◌∙◌, ◌≤◌, length, subst, sym}
 use Rattle.limits.specs.declared.TheConstants.{MAX_SLOTS}
 use Rattle.image_defs.specs.Places.{Each, item_slots, in_slots, out_slots}
-use Rattle.port_walk.specs.Rows.{AreReaders}
-use Rattle.port_walk.specs.code.Stops.{ArePlaces, HasFewReaders}
+use Rattle.port_walk.specs.{Rows.AreReaders, code.Stops.ArePlaces, code.Stops.HasFewReaders}
 use Rattle.port_walk.proofs.WalkLemmas.{out_places, in_places, few_sends, few_readers, stops_read}
 use Rattle.port_walk.proofs.lists.lists_of.Goals as goal
 

@@ -1,5 +1,4 @@
-use Rattle.std.proofs.Common.{refl}
-use Rattle.std.proofs.lemmas.Option.{slice_get_read}
+use Rattle.std.proofs.{Common.refl, lemmas.Option.slice_get_read}
 use Rattle.image_defs.specs.declared.image.LinkOut.{LinkOut}
 use Rattle.port_walk.proofs.RowLemmas.{readers_grown}
 use Rattle.port_walk.proofs.readers.add_readers.Goals as goal

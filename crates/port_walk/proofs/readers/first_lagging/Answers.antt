@@ -1,6 +1,5 @@
 use Rattle.std.proofs.Common.{get_or, inl, inr, ap, ◌∙◌, ◌≡◌, ◌≤◌, Some, slice_get, slice_index_or, subst, sym, refl, arith}
-use Rattle.std.proofs.lemmas.Bool.{cases_lt, false≢true}
-use Rattle.std.proofs.lemmas.Option.{slice_get-get_or, slice_get_within, get_or_from_slice_get}
+use Rattle.std.proofs.lemmas.{Bool.cases_lt, Bool.false≢true, Option.slice_get-get_or, Option.slice_get_within, Option.get_or_from_slice_get}
 use Rattle.list_laws.proofs.Ranges.{last_or}
 use Rattle.image_defs.proofs.lemmas.PlaceLemmas.{rises}
 use Rattle.port_walk.proofs.CursorLemmas.{from_next}

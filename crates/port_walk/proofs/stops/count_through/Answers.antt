@@ -1,5 +1,4 @@
-use Rattle.std.proofs.Common.{◌+◌, arith, get_or}
-use Rattle.std.proofs.lemmas.Option.{slice_get-get_or}
+use Rattle.std.proofs.{Common.◌+◌, Common.arith, Common.get_or, lemmas.Option.slice_get-get_or}
 use Rattle.port_walk.proofs.StopLemmas.{front_at, front_end}
 use Rattle.port_walk.proofs.stops.count_through.Goals as goal
 

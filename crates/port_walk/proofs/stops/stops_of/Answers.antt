@@ -1,10 +1,7 @@
 use Rattle.std.proofs.Common.{◌+◌, ◌<◌, length, subst, sym, arith}
 use Rattle.std.proofs.lemmas.List.{length-map}
-use Rattle.image_defs.specs.declared.image.LinkIn.{LinkIn}
-use Rattle.image_defs.specs.declared.image.LinkOut.{LinkOut}
-use Rattle.image_defs.specs.Places.{in_slots, out_slots}
-use Rattle.port_walk.specs.Stops.{IsStop, AreStops}
-use Rattle.port_walk.specs.code.Stops.{IsOnTheWay}
+use Rattle.image_defs.specs.{declared.image.LinkIn.LinkIn, declared.image.LinkOut.LinkOut, Places.in_slots, Places.out_slots}
+use Rattle.port_walk.specs.{Stops.IsStop, Stops.AreStops, code.Stops.IsOnTheWay}
 use Rattle.port_walk.proofs.StopLemmas.{stop_is, way_begins, way_sends, way_receives, way_ends, send_within, receipt_within, places_few}
 use Rattle.port_walk.proofs.stops.stops_of.Goals as goal
 

@@ -1,6 +1,5 @@
 use Rattle.std.proofs.lemmas.Result.{on_ok_weaker}
-use Rattle.ref_sim.proofs.CycleLemmas.{one_watched}
-use Rattle.ref_sim.proofs.lemmas.Simulations.{one_along}
+use Rattle.ref_sim.proofs.{CycleLemmas.one_watched, lemmas.Simulations.one_along}
 use Rattle.ref_sim.proofs.run.observe.Goals as goal
 
 pub returns-in_err-schedule-clause-simulated : goal.returns-in_err-schedule-clause-simulated

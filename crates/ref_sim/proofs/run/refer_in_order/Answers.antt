@@ -1,5 +1,4 @@
-use Rattle.ref_sim.proofs.PrintLemmas.{rows_printed}
-use Rattle.ref_sim.proofs.lemmas.Simulations.{one_along}
+use Rattle.ref_sim.proofs.{PrintLemmas.rows_printed, lemmas.Simulations.one_along}
 use Rattle.ref_sim.proofs.run.refer_in_order.Goals as goal
 
 pub returns-in_err-printing-clause-simulated : goal.returns-in_err-printing-clause-simulated

@@ -1,6 +1,6 @@
 use Rattle.std.proofs.Common.{◌∙◌, length, replicate, refl, ap, arith}
-use Rattle.std.specs.List.{flat_map}
 use Rattle.std.proofs.lemmas.List.{take_all}
+use Rattle.std.specs.List.{flat_map}
 use Rattle.ref_sim.proofs.CycleLemmas.{runs_none, watched_as}
 use Rattle.ref_sim.proofs.run.run.Goals as goal
 

@@ -1,6 +1,5 @@
 -- Each piece is written after those before it.
-use Rattle.std.proofs.Common.{arith}
-use Rattle.std.proofs.lemmas.Result.{err_from_is_err_and}
+use Rattle.std.proofs.{Common.arith, lemmas.Result.err_from_is_err_and}
 use Rattle.edge_io.proofs.lemmas.WritingLemmas.{writes_none, writes_more, writes_ended, writes_all, member_at}
 use Rattle.refusals.proofs.lines.write_pieces.Goals as goal
 

@@ -1,7 +1,6 @@
 use Rattle.std.proofs.Common.{inl, ◌+◌, ◌*◌, ◌<◌, get_or, arith}
 use Rattle.std.proofs.lemmas.List.Elements.{Contains-get_or}
-use Rattle.slot_plan.proofs.BoardLemmas.{taken_none, taken_more, taken_all}
-use Rattle.slot_plan.proofs.ScanLemmas.{or_more}
+use Rattle.slot_plan.proofs.{BoardLemmas.taken_none, BoardLemmas.taken_more, BoardLemmas.taken_all, ScanLemmas.or_more}
 use Rattle.slot_plan.proofs.board.taken_word.Goals as goal
 
 pub word-word-requires-in-readers-clause-room : goal.word-word-requires-in-readers-clause-room

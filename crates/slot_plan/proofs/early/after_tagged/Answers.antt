@@ -1,6 +1,5 @@
 use Rattle.std.proofs.Common.{◌+◌, get_or, refl, sym, subst}
-use Rattle.node_defs.specs.declared.items.Feed.TheVariants.{From}
-use Rattle.node_defs.specs.Takes.{FeedAwaits}
+use Rattle.node_defs.specs.{declared.items.Feed.TheVariants.From, Takes.FeedAwaits}
 use Rattle.slot_plan.specs.code.Early.{IsFrom}
 use Rattle.slot_plan.proofs.EarlyLemmas.{from_one, from_none}
 use Rattle.slot_plan.proofs.early.after_tagged.Goals as goal

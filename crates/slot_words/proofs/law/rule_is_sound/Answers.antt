@@ -1,5 +1,4 @@
-use Rattle.slot_words.proofs.PlainLemmas.{rule_sound}
-use Rattle.slot_words.proofs.lemmas.SoundLemmas.{rule_distinct}
+use Rattle.slot_words.proofs.{PlainLemmas.rule_sound, lemmas.SoundLemmas.rule_distinct}
 use Rattle.slot_words.specs.plain.Words.{plain}
 use Rattle.slot_words.proofs.law.rule_is_sound.Goals as goal
 

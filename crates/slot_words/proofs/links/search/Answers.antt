@@ -1,5 +1,4 @@
-use Rattle.std.proofs.Common.{arith}
-use Rattle.std.proofs.lemmas.Option.{slice_get_within}
+use Rattle.std.proofs.{Common.arith, lemmas.Option.slice_get_within}
 use Rattle.slot_words.proofs.LinkLemmas.{not_next, slot_here}
 use Rattle.slot_words.proofs.links.search.Goals as goal
 

@@ -1,9 +1,6 @@
 use Rattle.std.proofs.Common.{ap, arith, length, subst, sym, ◌<◌, ◌∙◌}
-use Rattle.slot_words.proofs.OpeningLemmas.{claim_room, no_port}
-use Rattle.slot_words.proofs.AllowLemmas.{claim_allowed, split_allowed}
-use Rattle.slot_words.specs.code.Opening.{IsTemplate}
-use Rattle.slot_words.specs.Passes.{WordsView}
-use Rattle.slot_words.specs.declared.rule.View.{View}
+use Rattle.slot_words.proofs.{OpeningLemmas.claim_room, OpeningLemmas.no_port, AllowLemmas.claim_allowed, AllowLemmas.split_allowed}
+use Rattle.slot_words.specs.{code.Opening.IsTemplate, Passes.WordsView, declared.rule.View.View}
 use Rattle.slot_words.proofs.opening.claim.Goals as goal
 
 pub split_seat-seat-requires : goal.split_seat-seat-requires

@@ -1,5 +1,4 @@
-use Rattle.slot_words.specs.code.Opening.{IsTemplate}
-use Rattle.slot_words.specs.Passes.{AreFirstPasses}
+use Rattle.slot_words.specs.{code.Opening.IsTemplate, Passes.AreFirstPasses}
 use Rattle.slot_words.proofs.opening.deal.Given as goal
 
 abbrev pub invariant-ports : goal.invariant-ports

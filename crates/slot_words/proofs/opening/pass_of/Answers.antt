@@ -1,9 +1,7 @@
 use Rattle.std.proofs.Common.{ap, arith, length, refl, sym, subst, ◌∙◌}
 use Rattle.std.proofs.lemmas.List.{length-replicate}
-use Rattle.image_defs.specs.WellFormed.{IsWellFormed}
-use Rattle.image_defs.specs.declared.image.Image.{Image}
-use Rattle.slot_words.specs.Passes.{WordsView}
-use Rattle.slot_words.specs.declared.rule.View.{View}
+use Rattle.image_defs.specs.{WellFormed.IsWellFormed, declared.image.Image.Image}
+use Rattle.slot_words.specs.{Passes.WordsView, declared.rule.View.View}
 use Rattle.slot_words.proofs.opening.pass_of.Goals as goal
 
 pub send_links-requires-clause-image : goal.send_links-requires-clause-image

@@ -1,9 +1,6 @@
-use Rattle.std.proofs.Common.{◌∙◌}
-use Rattle.std.proofs.lemmas.Result.{err_from_is_err_and}
-use Rattle.stim_text.specs.declared.refusal.LaneNo.TheVariants.{Memory as NoMemory}
-use Rattle.stim_text.specs.LaneTexts.{first_lanes_fault}
-use Rattle.stim_text.proofs.LaneTextLemmas.{lanes_from_none, none_from_lanes, lanes_from_reads}
-use Rattle.stim_text.proofs.ReadingLemmas.{memory_alone}
+use Rattle.std.proofs.{Common.◌∙◌, lemmas.Result.err_from_is_err_and}
+use Rattle.stim_text.specs.{declared.refusal.LaneNo.TheVariants.Memory as NoMemory, LaneTexts.first_lanes_fault}
+use Rattle.stim_text.proofs.{LaneTextLemmas.lanes_from_none, LaneTextLemmas.none_from_lanes, LaneTextLemmas.lanes_from_reads, ReadingLemmas.memory_alone}
 use Rattle.stim_text.proofs.lane_reading.read_lanes.Goals as goal
 
 pub returns-clause-answers : goal.returns-clause-answers

@@ -1,6 +1,5 @@
 use Rattle.std.proofs.Common.{length, sym, ap, ◌∙◌, inl, inr, ⊎_elim, arith}
-use Rattle.std.proofs.lemmas.Result.{err_from_is_err_and}
-use Rattle.std.proofs.lemmas.List.{length_push}
+use Rattle.std.proofs.lemmas.{Result.err_from_is_err_and, List.length_push}
 use Rattle.stim_text.specs.code.LaneTexts.{times_in}
 use Rattle.stim_text.proofs.LaneLoopLemmas.{has_none, has_fault, has_begin, has_blank, has_lane, has_row, has_all}
 use Rattle.stim_text.proofs.ReadingLemmas.{next_short}

@@ -1,5 +1,4 @@
-use Rattle.std.proofs.Common.{refl, arith, ◌+◌}
-use Rattle.std.proofs.lemmas.Bool.{lt-ltb, le-leb}
+use Rattle.std.proofs.{Common.refl, Common.arith, Common.◌+◌, lemmas.Bool.lt-ltb, lemmas.Bool.le-leb}
 use Rattle.limits.specs.declared.TheConstants.{MAX_STEPS}
 use Rattle.stim_text.proofs.order_line.checked_line.Goals as goal
 

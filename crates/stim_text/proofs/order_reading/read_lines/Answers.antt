@@ -1,10 +1,7 @@
-use Rattle.std.proofs.Common.{sym, ◌∙◌, inr}
-use Rattle.std.proofs.lemmas.Result.{err_from_is_err_and}
-use Rattle.std.proofs.lemmas.List.{length_push}
+use Rattle.std.proofs.{Common.sym, Common.◌∙◌, Common.inr, lemmas.Result.err_from_is_err_and, lemmas.List.length_push}
 use Rattle.text_lines.proofs.FaultLemmas.{fault_or_err, fault_or_ok}
-use Rattle.stim_text.specs.declared.order.OrderLine.{OrderLine}
+use Rattle.stim_text.specs.{declared.order.OrderLine.OrderLine, OrderLines.line_of, OrderLines.fault_of}
 use Rattle.limits.specs.declared.TheConstants.{MAX_STEPS}
-use Rattle.stim_text.specs.OrderLines.{line_of, fault_of}
 use Rattle.stim_text.proofs.ReadingLemmas.{read_none, read_more, read_blank, read_fault, read_all, room_for}
 use Rattle.stim_text.proofs.order_reading.read_lines.Goals as goal
 

@@ -1,9 +1,6 @@
-use Rattle.std.proofs.Common.{◌∙◌}
-use Rattle.std.proofs.lemmas.Result.{err_from_is_err_and}
-use Rattle.stim_text.specs.declared.refusal.OrderNo.TheVariants.{Memory as NoMemory}
-use Rattle.stim_text.specs.Orders.{first_fault}
-use Rattle.stim_text.proofs.OrderLemmas.{reads_from_none, none_from_reads, valid_from_reads}
-use Rattle.stim_text.proofs.ReadingLemmas.{memory_alone}
+use Rattle.std.proofs.{Common.◌∙◌, lemmas.Result.err_from_is_err_and}
+use Rattle.stim_text.specs.{declared.refusal.OrderNo.TheVariants.Memory as NoMemory, Orders.first_fault}
+use Rattle.stim_text.proofs.{OrderLemmas.reads_from_none, OrderLemmas.none_from_reads, OrderLemmas.valid_from_reads, ReadingLemmas.memory_alone}
 use Rattle.stim_text.proofs.order_reading.read_order.Goals as goal
 
 pub returns-clause-answers : goal.returns-clause-answers

@@ -1,7 +1,6 @@
 use Rattle.std.proofs.Common.{length, sym, ◌∙◌, inl, inr, ⊎_elim, arith}
+use Rattle.std.proofs.lemmas.{Result.err_from_is_err_and, List.length_push}
 use Rattle.net_defs.specs.declared.stimulus.StimRow.{StimRow}
-use Rattle.std.proofs.lemmas.Result.{err_from_is_err_and}
-use Rattle.std.proofs.lemmas.List.{length_push}
 use Rattle.limits.specs.declared.TheConstants.{MAX_CYCLES}
 use Rattle.stim_text.proofs.ReadingLemmas.{next_short, read_none, read_more, read_blank, read_fault, read_all, room_for}
 use Rattle.stim_text.proofs.reading.read_rows.Goals as goal

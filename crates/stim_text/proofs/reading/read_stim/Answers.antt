@@ -1,9 +1,6 @@
-use Rattle.std.proofs.Common.{◌∙◌}
-use Rattle.std.proofs.lemmas.Result.{err_from_is_err_and}
-use Rattle.stim_text.specs.declared.refusal.StimNo.TheVariants.{Memory as NoMemory}
-use Rattle.stim_text.specs.Stimuli.{first_fault}
-use Rattle.stim_text.proofs.LawLemmas.{reads_from_none, none_from_reads, valid_from_reads}
-use Rattle.stim_text.proofs.ReadingLemmas.{memory_alone}
+use Rattle.std.proofs.{Common.◌∙◌, lemmas.Result.err_from_is_err_and}
+use Rattle.stim_text.specs.{declared.refusal.StimNo.TheVariants.Memory as NoMemory, Stimuli.first_fault}
+use Rattle.stim_text.proofs.{LawLemmas.reads_from_none, LawLemmas.none_from_reads, LawLemmas.valid_from_reads, ReadingLemmas.memory_alone}
 use Rattle.stim_text.proofs.reading.read_stim.Goals as goal
 
 pub returns-clause-answers : goal.returns-clause-answers

@@ -1,9 +1,7 @@
 use Rattle.std.proofs.Common.{◌≡◌, ℕ, ◌+◌, ◌<◌, List, [], ◌∷◌, ◌++◌, length, take, get_or, Option, sym, ap, ◌∙◌, append-nil}
-use Rattle.std.proofs.lemmas.List.{take_more}
-use Rattle.std.proofs.lemmas.List.Elements.{filter_map-append}
+use Rattle.std.proofs.lemmas.List.{take_more, Elements.filter_map-append}
 use Rattle.std.specs.List.{filter_map, cons_option}
-use Rattle.logic_four.specs.declared.V4.{V4}
-use Rattle.logic_four.specs.Values.{char_value}
+use Rattle.logic_four.specs.{declared.V4.V4, Values.char_value}
 use Rattle.stim_text.proofs.row.values_in.Goals as goal
 use Rattle.stim_text.proofs.row.values_in.Goals.{in-Some+in_ok-push, in_default}
 

@@ -1,7 +1,5 @@
-use Rattle.std.proofs.Common.{rules, tests, ◌∙◌}
-use Rattle.std.proofs.lemmas.Iterator.{YieldsList-from_slice}
-use Rattle.std.proofs.lemmas.Iterator.Consumers.{YieldsList-from_filter, count_from_yields_List}
-use Rattle.std.proofs.lemmas.List.Sums.{length-filter}
+use Rattle.std.proofs.{Common.rules, Common.tests, Common.◌∙◌, lemmas.Iterator.YieldsList-from_slice}
+use Rattle.std.proofs.lemmas.{Iterator.Consumers.YieldsList-from_filter, Iterator.Consumers.count_from_yields_List, List.Sums.length-filter}
 use Rattle.stim_text.specs.Rows.{is_value_byte, width_of}
 use Rattle.stim_text.proofs.row.width.Goals as goal
 

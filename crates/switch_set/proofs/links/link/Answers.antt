@@ -1,6 +1,5 @@
 use Rattle.std.proofs.Common.{◌≡◌, ◌∙◌, arith, length, set, subst, sym}
-use Rattle.std.proofs.lemmas.Bool.{eqb-false}
-use Rattle.std.proofs.lemmas.List.{length-set}
+use Rattle.std.proofs.lemmas.{Bool.eqb-false, List.length-set}
 use Rattle.switch_set.specs.code.Links.{links_at, with_sending}
 use Rattle.switch_set.proofs.LinkLemmas.{linked}
 use Rattle.switch_set.proofs.links.link.Goals as goal

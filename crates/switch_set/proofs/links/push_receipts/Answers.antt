@@ -1,5 +1,4 @@
-use Rattle.std.proofs.Common.{get_or, arith}
-use Rattle.std.proofs.lemmas.List.Elements.{Contains-get_or}
+use Rattle.std.proofs.{Common.get_or, Common.arith, lemmas.List.Elements.Contains-get_or}
 use Rattle.switch_set.proofs.LinkLemmas.{receives_more}
 use Rattle.switch_set.proofs.links.push_receipts.Goals as goal
 

@@ -1,12 +1,8 @@
 use Rattle.std.proofs.Common.{List, [], ap, arith, length, rules, subst, sym, ℕ}
-use Rattle.std.proofs.lemmas.Option.{slice_get-get_or, slice_get_within}
-use Rattle.std.proofs.lemmas.Result.{err_from_is_err_and}
+use Rattle.std.proofs.lemmas.{Option.slice_get-get_or, Option.slice_get_within, Result.err_from_is_err_and}
 use Rattle.node_defs.specs.declared.items.NodeNet.{NodeNet}
-use Rattle.plan_defs.specs.Homes.{ports_of}
-use Rattle.plan_defs.specs.declared.plan.Homes.{Homes}
-use Rattle.plan_defs.specs.declared.switch.PortLinks.{PortLinks}
-use Rattle.switch_set.specs.Order.{IsSlotOrder}
-use Rattle.switch_set.specs.code.Links.{AreLinked, AreUnlinked}
+use Rattle.plan_defs.specs.{Homes.ports_of, declared.plan.Homes.Homes, declared.switch.PortLinks.PortLinks}
+use Rattle.switch_set.specs.{Order.IsSlotOrder, code.Links.AreLinked, code.Links.AreUnlinked}
 use Rattle.switch_set.proofs.SwitchLemmas.{item_low, linked_more, home_low, readers_low, switch_is}
 use Rattle.switch_set.proofs.route.settings.Goals as goal
 

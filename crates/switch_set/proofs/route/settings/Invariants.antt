@@ -1,7 +1,6 @@
 use Rattle.std.proofs.Common.{◌≡◌, take}
 use Rattle.plan_defs.specs.ReaderLists.{AreReaders}
-use Rattle.switch_set.specs.code.Links.{AreLinked}
-use Rattle.switch_set.specs.Order.{items_of, IsSlotOrder}
+use Rattle.switch_set.specs.{code.Links.AreLinked, Order.items_of, Order.IsSlotOrder}
 use Rattle.switch_set.proofs.route.settings.Given as goal
 
 abbrev pub invariant-items : goal.invariant-items

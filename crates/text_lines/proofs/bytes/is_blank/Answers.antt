@@ -1,5 +1,4 @@
-use Rattle.std.proofs.Common.{refl}
-use Rattle.std.proofs.lemmas.Bool.{ne_eqb}
+use Rattle.std.proofs.{Common.refl, lemmas.Bool.ne_eqb}
 use Rattle.text_lines.specs.Bytes.{is_blank}
 use Rattle.text_lines.proofs.bytes.is_blank.Goals as goal
 

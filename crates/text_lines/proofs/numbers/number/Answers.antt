@@ -1,5 +1,4 @@
-use Rattle.std.proofs.Common.{rules}
-use Rattle.std.proofs.lemmas.Grind.{common_steps}
+use Rattle.std.proofs.{Common.rules, lemmas.Grind.common_steps}
 use Rattle.text_lines.proofs.numbers.number.Goals as goal
 
 pub loop-byte-preserved : goal.loop-byte-preserved

@@ -1,6 +1,5 @@
 use Rattle.std.proofs.Common.{◌≡◌, ◌-◌, ◌^◌, min, true, take}
-use Rattle.std.specs.List.{list_all}
-use Rattle.std.specs.Char.{is_ascii_digit}
+use Rattle.std.specs.{List.list_all, Char.is_ascii_digit}
 use Rattle.text_lines.specs.Numbers.{digits_value}
 use Rattle.text_lines.proofs.numbers.number.Given as goal
 

@@ -1,6 +1,6 @@
 use Rattle.std.proofs.Common.{◌≡◌, ◌∙◌, ℕ, Option, Some, None, arith}
-use Rattle.std.specs.Option.{IfSome, SomeIff}
 use Rattle.std.proofs.lemmas.List.{length-append}
+use Rattle.std.specs.Option.{IfSome, SomeIff}
 use Rattle.net_defs.specs.Trace.{header_line}
 use Rattle.trace_text.proofs.line.header_length.Goals as goal
 

@@ -1,7 +1,6 @@
 use Rattle.std.proofs.Common.{ℕ, ◌∷◌, length, take, ap, arith, length-append}
+use Rattle.std.proofs.lemmas.{List.Folds.length-flat_map-take, Grind.common_steps}
 use Rattle.std.specs.List.{flat_map}
-use Rattle.std.proofs.lemmas.List.Folds.{length-flat_map-take}
-use Rattle.std.proofs.lemmas.Grind.{common_steps}
 use Rattle.net_defs.specs.Canonical.{name_of}
 use Rattle.seen_list.specs.Filling.{Filling}
 use Rattle.trace_text.proofs.line.push_names.Goals as goal

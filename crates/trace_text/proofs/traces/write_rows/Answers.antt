@@ -1,9 +1,8 @@
 -- Each row's line is written after those before it.
 use Rattle.std.proofs.Common.{◌≡◌, ◌∙◌, ◌+◌, ◌<◌, ℕ, List, length, get_or, ap, sym, arith, refl}
-use Rattle.std.specs.List.{enumerate_from}
 use Rattle.std.proofs.lemmas.List.FromFn.{get_or-enumerate_from, length-enumerate_from}
-use Rattle.net_defs.specs.declared.trace.CellRow.{CellRow}
-use Rattle.net_defs.specs.Trace.{cycle_line}
+use Rattle.std.specs.List.{enumerate_from}
+use Rattle.net_defs.specs.{declared.trace.CellRow.CellRow, Trace.cycle_line}
 use Rattle.edge_io.proofs.lemmas.WritingLemmas.{writes_none, writes_more, writes_ended, writes_all}
 use Rattle.trace_text.proofs.traces.write_rows.Goals as goal
 

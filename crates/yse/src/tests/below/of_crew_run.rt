@@ -1,8 +1,7 @@
 //! A crew of members that wait for one another, run by threads.
 
 ghost use Rattle.std.specs.Prelude.{IfOk, OnOk, [], length, ◌∷◌, ◌+◌, ◌<◌, ◌^◌, ◌≡◌, ◌≤◌};
-ghost use Rattle.crew_run.specs.Crews.{AreReady};
-ghost use Rattle.crew_run.specs.Lending.{AllAreReady};
+ghost use Rattle.crew_run.specs.{Crews.AreReady, Lending.AllAreReady};
 
 use crew_run::{Gate, Step, Stepper, Worker, add, run_with};
 use machine_run::count_gates;

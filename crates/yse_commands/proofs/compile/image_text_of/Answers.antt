@@ -1,6 +1,5 @@
 -- The text is that of the image and the plan's claims.
-use Rattle.std.proofs.Common.{refl}
-use Rattle.std.proofs.lemmas.Result.{IfOk-weaker}
+use Rattle.std.proofs.{Common.refl, lemmas.Result.IfOk-weaker}
 use Rattle.yse_commands.proofs.compile.image_text_of.Goals as goal
 
 pub claims-requires : goal.claims-requires

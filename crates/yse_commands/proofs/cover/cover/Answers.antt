@@ -1,7 +1,6 @@
 -- The design, the loop, and the coverage.
-use Rattle.call_steps.specs.Checks.{HasNoLoop}
+use Rattle.call_steps.specs.{Checks.HasNoLoop, Files.AfterStimulus}
 use Rattle.yse_commands.specs.commands.Cover.{CoversIn, WritesCoverage}
-use Rattle.call_steps.specs.Files.{AfterStimulus}
 use Rattle.yse_commands.proofs.lemmas.ChainLemmas.{follows_on, follows_refusal, handed_on}
 use Rattle.yse_commands.proofs.PassingLemmas.{design_on, design_stops}
 use Rattle.yse_commands.proofs.cover.cover.Goals as goal

@@ -1,8 +1,7 @@
 -- The stimulus, and the coverage.
 use Rattle.std.proofs.Common.{refl, inl, inr}
 use Rattle.yse_commands.specs.commands.Cover.{WritesCoverage}
-use Rattle.yse_commands.proofs.lemmas.ChainLemmas.{follows_here, handed_on}
-use Rattle.yse_commands.proofs.PassingLemmas.{stimulus_on, stimulus_stops}
+use Rattle.yse_commands.proofs.{lemmas.ChainLemmas.follows_here, lemmas.ChainLemmas.handed_on, PassingLemmas.stimulus_on, PassingLemmas.stimulus_stops}
 use Rattle.yse_commands.proofs.cover.coverage_of.Goals as goal
 
 pub returns-in_err-stimulus-clause-expected : goal.returns-in_err-stimulus-clause-expected

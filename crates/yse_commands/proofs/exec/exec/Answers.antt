@@ -1,20 +1,15 @@
 -- The image, the stimulus, and the run.
 use Rattle.std.proofs.Common.{Some, None, [], length, refl, inl, inr}
 use Rattle.edge_io.specs.declared.counts.FileCounts.{FileCounts}
-use Rattle.call_steps.specs.declared.designs.Runnable.{Runnable}
-use Rattle.call_steps.specs.Outcome.{Outcome}
-use Rattle.call_steps.specs.Passing.{AfterRunnable, Continuation}
+use Rattle.call_steps.specs.{declared.designs.Runnable.Runnable, Outcome.Outcome, Passing.AfterRunnable, Passing.Continuation}
 use Rattle.call_steps.proofs.lemmas.WeakerLemmas.{runnable_so}
 use Rattle.cmd_words.specs.declared.command.RunWords.{RunWords}
-use Rattle.yse_commands.specs.Refusals.{Follows, FilesFollow}
-use Rattle.yse_commands.specs.Told.{run_turns}
-use Rattle.yse_commands.specs.commands.Exec.{ExpectedExec, RunsImage}
-use Rattle.yse_commands.specs.commands.Run.{RunsTo}
-use Rattle.yse_commands.proofs.lemmas.ChainLemmas.{comes_silent, follows_here, handed_on}
+use Rattle.yse_commands.specs.{Refusals.Follows, Refusals.FilesFollow, Told.run_turns, commands.Exec.ExpectedExec, commands.Exec.RunsImage, commands.Run.RunsTo}
 use Rattle.yse_commands.proofs.PassingLemmas.{passed_on, stimulus_on, stimulus_stops, stopped}
+use Rattle.yse_commands.proofs.lemmas.ChainLemmas.{comes_silent, follows_here, handed_on}
+use Rattle.yse_commands.proofs.exec.exec.Goals.{In_ok-run, In_ok-stimulus}
 use Rattle.yse_commands.proofs.exec.exec.Given as given
 use Rattle.yse_commands.proofs.exec.exec.Goals as goal
-use Rattle.yse_commands.proofs.exec.exec.Goals.{In_ok-run, In_ok-stimulus}
 
 -- what comes after the image
 abbrev image_then : RunWords → Continuation Runnable

@@ -1,7 +1,6 @@
 -- The design, the loop, and the list.
-use Rattle.call_steps.specs.Checks.{After, HasFewSignals, HasNoLoop}
+use Rattle.call_steps.specs.{Checks.After, Checks.HasFewSignals, Checks.HasNoLoop, Files.AfterFaultList}
 use Rattle.yse_commands.specs.commands.Fault.{AfterListed, FaultsIn}
-use Rattle.call_steps.specs.Files.{AfterFaultList}
 use Rattle.yse_commands.proofs.lemmas.ChainLemmas.{follows_on, follows_refusal, handed_on}
 use Rattle.yse_commands.proofs.PassingLemmas.{design_on, design_stops}
 use Rattle.yse_commands.proofs.fault.fault.Goals as goal

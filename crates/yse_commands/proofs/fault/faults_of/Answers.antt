@@ -1,7 +1,6 @@
 -- The number of signals, the list of faults, and the rest.
-use Rattle.call_steps.specs.Checks.{HasFewSignals}
+use Rattle.call_steps.specs.{Checks.HasFewSignals, Files.AfterFaultList}
 use Rattle.yse_commands.specs.commands.Fault.{AfterListed}
-use Rattle.call_steps.specs.Files.{AfterFaultList}
 use Rattle.call_steps.proofs.lemmas.WeakerLemmas.{faults_so}
 use Rattle.yse_commands.proofs.lemmas.ChainLemmas.{follows_on, follows_refusal, handed_on}
 use Rattle.yse_commands.proofs.PassingLemmas.{passed_on, stopped}

@@ -1,8 +1,7 @@
 -- The stimulus, and the list.
 use Rattle.std.proofs.Common.{refl, inl, inr}
 use Rattle.yse_commands.specs.commands.Fault.{ListsFaults, listed_or_all}
-use Rattle.yse_commands.proofs.lemmas.ChainLemmas.{follows_here, handed_on}
-use Rattle.yse_commands.proofs.PassingLemmas.{stimulus_on, stimulus_stops}
+use Rattle.yse_commands.proofs.{lemmas.ChainLemmas.follows_here, lemmas.ChainLemmas.handed_on, PassingLemmas.stimulus_on, PassingLemmas.stimulus_stops}
 use Rattle.yse_commands.proofs.fault.listed_of.Goals as goal
 
 pub returns-in_err-stimulus-clause-expected : goal.returns-in_err-stimulus-clause-expected

@@ -1,13 +1,9 @@
 -- The design on its machine, and what is asked of it.
 use Rattle.std.proofs.Common.{refl, inl, inr}
 use Rattle.cmd_words.specs.declared.command.RunWords.{RunWords}
-use Rattle.call_steps.specs.Checks.{Ends, Writes}
-use Rattle.call_steps.specs.Designs.{Placed}
-use Rattle.call_steps.specs.Passing.{AfterPlaced, Continuation}
-use Rattle.yse_commands.specs.declared.layout.Sheet.{Sheet}
-use Rattle.yse_commands.specs.commands.Layout.{IsSheetOf}
-use Rattle.yse_commands.proofs.lemmas.ChainLemmas.{follows_here, handed_on}
-use Rattle.yse_commands.proofs.PassingLemmas.{passed_on, stopped}
+use Rattle.call_steps.specs.{Checks.Ends, Checks.Writes, Designs.Placed, Passing.AfterPlaced, Passing.Continuation}
+use Rattle.yse_commands.specs.{declared.layout.Sheet.Sheet, commands.Layout.IsSheetOf}
+use Rattle.yse_commands.proofs.{lemmas.ChainLemmas.follows_here, lemmas.ChainLemmas.handed_on, PassingLemmas.passed_on, PassingLemmas.stopped}
 use Rattle.call_steps.proofs.lemmas.WeakerLemmas.{placed_so}
 use Rattle.yse_commands.proofs.layout.lay_out.Goals as goal
 

@@ -3,8 +3,7 @@ use Rattle.std.proofs.Common.{refl, inl, inr}
 use Rattle.call_steps.specs.Passing.{AfterOrderFile}
 use Rattle.call_steps.proofs.lemmas.WeakerLemmas.{order_so}
 use Rattle.yse_commands.specs.commands.Run.{EndsAfter}
-use Rattle.yse_commands.proofs.lemmas.ChainLemmas.{follows_here, handed_on}
-use Rattle.yse_commands.proofs.PassingLemmas.{passed_on, stopped}
+use Rattle.yse_commands.proofs.{lemmas.ChainLemmas.follows_here, lemmas.ChainLemmas.handed_on, PassingLemmas.passed_on, PassingLemmas.stopped}
 use Rattle.yse_commands.proofs.order.in_order.Goals as goal
 
 pub returns-in_err-order-clause-expected : goal.returns-in_err-order-clause-expected

@@ -1,17 +1,13 @@
 -- The design with its stimulus, the cells, and the end of the run.
 use Rattle.std.proofs.Common.{None, refl, inl, inr}
 use Rattle.edge_io.specs.declared.counts.FileCounts.{FileCounts}
-use Rattle.call_steps.specs.Checks.{HasFewCells}
-use Rattle.call_steps.specs.Outcome.{Outcome}
-use Rattle.call_steps.specs.Passing.{AfterReady}
+use Rattle.call_steps.specs.{Checks.HasFewCells, Outcome.Outcome, Passing.AfterReady}
 use Rattle.call_steps.proofs.lemmas.WeakerLemmas.{ready_so}
-use Rattle.yse_commands.specs.Refusals.{Follows}
-use Rattle.yse_commands.specs.commands.Run.{EndsByOrder, ExpectedOrder, OrdersOn}
+use Rattle.yse_commands.specs.{Refusals.Follows, commands.Run.EndsByOrder, commands.Run.ExpectedOrder, commands.Run.OrdersOn}
 use Rattle.yse_commands.proofs.lemmas.ChainLemmas.{follows_here, follows_on, follows_refusal, handed_on}
-use Rattle.yse_commands.proofs.PassingLemmas.{passed_on, stopped}
+use Rattle.yse_commands.proofs.{PassingLemmas.passed_on, PassingLemmas.stopped, order.order.Goals.In_ok-few_ready_cells, order.order.Goals.In_ok-ready}
 use Rattle.yse_commands.proofs.order.order.Given as given
 use Rattle.yse_commands.proofs.order.order.Goals as goal
-use Rattle.yse_commands.proofs.order.order.Goals.{In_ok-few_ready_cells, In_ok-ready}
 
 -- the design with its stimulus is had, and then this comes of the call
 after_ready : (g : given.Over) (c : In_ok-ready g) (outcome : Outcome) (new : FileCounts) → Follows (g.F.Files.names c.ready_on_machine.new.files) (g.F.Files.bytes c.ready_on_machine.new.files) (g.F.Files.counts c.ready_on_machine.new.files) new outcome (OrdersOn c.args.words.now c.in_ok-ready.ready)

@@ -1,10 +1,7 @@
 -- The lines of a list are written where nothing was.
 use Rattle.std.proofs.Common.{◌≡◌, sym, subst, ℕ, List, Option, Result}
-use Rattle.edge_io.specs.Writing.{Takes, joined}
-use Rattle.edge_io.specs.declared.writing.WriteNo.{WriteNo}
-use Rattle.yse_commands.specs.declared.output.Output.{Output}
-use Rattle.yse_commands.specs.declared.output.Output.TheVariants.{Lines}
-use Rattle.yse_commands.specs.Outputs.{HasTaken, bytes_of}
+use Rattle.edge_io.specs.{Writing.Takes, Writing.joined, declared.writing.WriteNo.WriteNo}
+use Rattle.yse_commands.specs.{declared.output.Output.Output, declared.output.Output.TheVariants.Lines, Outputs.HasTaken, Outputs.bytes_of}
 use Rattle.yse_commands.proofs.output.write_output.Goals as goal
 
 module _ {O : Type 0} (taken : O → Option (List ℕ)) (faults : O → ℕ) (before old new : O) (result : Result (Unit {0}) WriteNo) where

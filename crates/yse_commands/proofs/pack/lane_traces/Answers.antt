@@ -2,8 +2,7 @@
 use Rattle.std.proofs.Common.{refl, subst, length, ◌*◌, arith}
 use Rattle.machine_run.specs.Visits.{AreVisitsOf}
 use Rattle.stim_text.specs.Lanes.{longest}
-use Rattle.yse_commands.proofs.GateLemmas.{machine_ports}
-use Rattle.yse_commands.proofs.LaneLemmas.{lanes_printed}
+use Rattle.yse_commands.proofs.{GateLemmas.machine_ports, LaneLemmas.lanes_printed}
 use Rattle.yse_commands.proofs.pack.lane_traces.Goals as goal
 
 pub run_pack-requires-clause-tell : goal.run_pack-requires-clause-tell

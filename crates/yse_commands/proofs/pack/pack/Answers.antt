@@ -2,18 +2,15 @@
 use Rattle.std.proofs.Common.{Some, None, refl, inl, inr}
 use Rattle.edge_io.specs.declared.counts.FileCounts.{FileCounts}
 use Rattle.call_steps.specs.Checks.{Ends, HasFewBits, HasFewLaneCells, WritesTold}
-use Rattle.call_steps.specs.Files.{AfterLanes}
-use Rattle.call_steps.specs.Outcome.{Outcome}
-use Rattle.call_steps.specs.Passing.{AfterPlaced}
+use Rattle.call_steps.specs.{Files.AfterLanes, Outcome.Outcome, Passing.AfterPlaced}
 use Rattle.call_steps.proofs.lemmas.WeakerLemmas.{lanes_so, placed_so}
-use Rattle.yse_commands.specs.Refusals.{Follows}
-use Rattle.yse_commands.specs.Told.{lanes_turns}
 use Rattle.yse_commands.specs.commands.Pack.{AreLaneTraces, ExpectedPack, KeepsLanes, Packs}
+use Rattle.yse_commands.specs.{Refusals.Follows, Told.lanes_turns}
 use Rattle.yse_commands.proofs.lemmas.ChainLemmas.{comes_silent, follows_here, follows_on, follows_refusal, handed_on}
 use Rattle.yse_commands.proofs.PassingLemmas.{passed_on, stopped}
+use Rattle.yse_commands.proofs.pack.pack.Goals.{In_ok-design, In_ok-few_bits, In_ok-lanes}
 use Rattle.yse_commands.proofs.pack.pack.Given as given
 use Rattle.yse_commands.proofs.pack.pack.Goals as goal
-use Rattle.yse_commands.proofs.pack.pack.Goals.{In_ok-design, In_ok-few_bits, In_ok-lanes}
 
 -- the design is had, and then this comes of the call
 after_design : (g : given.Over) (c : In_ok-design g) (outcome : Outcome) (new : FileCounts) → Follows (g.F.Files.names c.design_on_machine.new.files) (g.F.Files.bytes c.design_on_machine.new.files) (g.F.Files.counts c.design_on_machine.new.files) new outcome (Packs c.args.words.now c.in_ok-design.design)

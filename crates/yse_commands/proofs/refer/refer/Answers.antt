@@ -1,15 +1,12 @@
 -- The netlist, the loop, the stimulus, and the trace.
 use Rattle.edge_io.specs.declared.counts.FileCounts.{FileCounts}
-use Rattle.call_steps.specs.Checks.{HasNoLoop}
-use Rattle.call_steps.specs.Outcome.{Outcome}
-use Rattle.yse_commands.specs.Refusals.{Follows}
-use Rattle.yse_commands.specs.commands.Run.{AfterLoop, ExpectedRefer, KeepsTrace}
-use Rattle.call_steps.specs.Files.{AfterStimulus}
+use Rattle.call_steps.specs.{Checks.HasNoLoop, Outcome.Outcome, Files.AfterStimulus}
+use Rattle.yse_commands.specs.{Refusals.Follows, commands.Run.AfterLoop, commands.Run.ExpectedRefer, commands.Run.KeepsTrace}
 use Rattle.yse_commands.proofs.lemmas.ChainLemmas.{follows_here, follows_on, follows_refusal, handed_on}
 use Rattle.yse_commands.proofs.PassingLemmas.{design_on, design_stops, stimulus_on, stimulus_stops}
+use Rattle.yse_commands.proofs.refer.refer.Goals.{In_ok-design, In_ok-net}
 use Rattle.yse_commands.proofs.refer.refer.Given as given
 use Rattle.yse_commands.proofs.refer.refer.Goals as goal
-use Rattle.yse_commands.proofs.refer.refer.Goals.{In_ok-design, In_ok-net}
 
 -- the netlist is had, and then this comes of the call
 after_netlist : (g : given.Over) (c : In_ok-net g) (outcome : Outcome) (new : FileCounts) → Follows (g.F.Files.names c.design_from.new.files) (g.F.Files.bytes c.design_from.new.files) (g.F.Files.counts c.design_from.new.files) new outcome (AfterLoop c.args.words.now.stimulus c.in_ok-net.field-0.net c.in_ok-net.field-0.timing)

@@ -3,8 +3,7 @@ use Rattle.std.proofs.Common.{Some, None, refl, inl, inr}
 use Rattle.machine_text.specs.Machines.{ports_of}
 use Rattle.call_steps.specs.Passing.{AfterReady}
 use Rattle.call_steps.proofs.lemmas.WeakerLemmas.{ready_so}
-use Rattle.yse_commands.specs.Told.{run_turns}
-use Rattle.yse_commands.specs.commands.Run.{RunsOn}
+use Rattle.yse_commands.specs.{Told.run_turns, commands.Run.RunsOn}
 use Rattle.yse_commands.proofs.lemmas.ChainLemmas.{comes_silent, follows_here, handed_on}
 use Rattle.yse_commands.proofs.PassingLemmas.{passed_on, stopped}
 use Rattle.yse_commands.proofs.run.run.Goals as goal

@@ -1,12 +1,9 @@
 -- The netlist, and its canonical text.
 use Rattle.std.proofs.Common.{◌≡◌, refl, inl, inr}
-use Rattle.net_defs.specs.Canonical.{canonical_text}
-use Rattle.net_defs.specs.declared.netlist.Netlist.{Netlist}
-use Rattle.call_steps.specs.Checks.{Ends, Writes}
-use Rattle.call_steps.specs.Passing.{AfterNetlistFile, Continuation}
+use Rattle.net_defs.specs.{Canonical.canonical_text, declared.netlist.Netlist.Netlist}
+use Rattle.call_steps.specs.{Checks.Ends, Checks.Writes, Passing.AfterNetlistFile, Passing.Continuation}
 use Rattle.yse_commands.specs.commands.Show.{ExpectedShow}
-use Rattle.yse_commands.proofs.lemmas.ChainLemmas.{follows_here, handed_on}
-use Rattle.yse_commands.proofs.PassingLemmas.{passed_on, stopped}
+use Rattle.yse_commands.proofs.{lemmas.ChainLemmas.follows_here, lemmas.ChainLemmas.handed_on, PassingLemmas.passed_on, PassingLemmas.stopped}
 use Rattle.call_steps.proofs.lemmas.WeakerLemmas.{netlist_file_so}
 use Rattle.yse_commands.proofs.show.show.Goals as goal
 

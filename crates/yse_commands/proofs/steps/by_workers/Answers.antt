@@ -1,6 +1,5 @@
 -- What the run writes is the trace, and its visits are those of the netlist's turns.
-use Rattle.yse_commands.proofs.GateLemmas.{image_turns}
-use Rattle.yse_commands.proofs.ShownLemmas.{run_trace}
+use Rattle.yse_commands.proofs.{GateLemmas.image_turns, ShownLemmas.run_trace}
 use Rattle.yse_commands.proofs.steps.by_workers.Goals as goal
 
 pub returns-clause-printed : goal.returns-clause-printed

@@ -1,7 +1,6 @@
 -- The machine has the ports of its image.
-use Rattle.std.proofs.Common.{Some, subst}
+use Rattle.std.proofs.{Common.Some, Common.subst, lemmas.Result.IfOk-weaker}
 use Rattle.std.specs.Prelude.{IfOk}
-use Rattle.std.proofs.lemmas.Result.{IfOk-weaker}
 use Rattle.machine_text.specs.Machines.{ports_of}
 use Rattle.call_steps.specs.Designs.{Placed, Prepared}
 use Rattle.yse_commands.specs.Told.{TellsTurns, run_turns}

@@ -1,5 +1,4 @@
-use Rattle.std.proofs.Common.{◌≡◌, sym, subst}
-use Rattle.std.proofs.lemmas.Result.{IfOk-weaker}
+use Rattle.std.proofs.{Common.◌≡◌, Common.sym, Common.subst, lemmas.Result.IfOk-weaker}
 use Rattle.image_defs.specs.Claimed.{lists_of}
 use Rattle.image_build.specs.PortItems.{ArePlanClaims}
 use Rattle.yse_compile.specs.Claims.{AreClaimsOf}

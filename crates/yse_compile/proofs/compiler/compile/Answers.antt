@@ -1,5 +1,4 @@
-use Rattle.std.proofs.Common.{ap, inr}
-use Rattle.std.proofs.lemmas.Result.{err_from_is_err_and}
+use Rattle.std.proofs.{Common.ap, Common.inr, lemmas.Result.err_from_is_err_and}
 use Rattle.net_defs.specs.declared.homes.HomeChoice.TheVariants.{Plain}
 use Rattle.yse_compile.proofs.compiler.compile.Goals as goal
 

@@ -1,5 +1,4 @@
-use Rattle.std.proofs.Common.{ap, refl}
-use Rattle.std.proofs.lemmas.Result.{err_from_is_err_and}
+use Rattle.std.proofs.{Common.ap, Common.refl, lemmas.Result.err_from_is_err_and}
 use Rattle.yse_compile.proofs.lemmas.ChoiceLemmas.{used_fits}
 use Rattle.yse_compile.proofs.compiler.compile_with.Goals as goal
 

@@ -1,6 +1,5 @@
 use Rattle.yse_compile.specs.declared.compiler.Compiled.{Compiled}
-use Rattle.yse_compile.proofs.ClaimLemmas.{plan_claims_are}
-use Rattle.yse_compile.proofs.ImageExists.{image_there}
+use Rattle.yse_compile.proofs.{ClaimLemmas.plan_claims_are, ImageExists.image_there}
 use Rattle.yse_compile.proofs.law.images_exist.Goals as goal
 
 pub returns : goal.returns

@@ -1,6 +1,5 @@
 use Rattle.std.proofs.Common.{ap}
-use Rattle.yse_compile.proofs.FitLemmas.{fit_kept}
-use Rattle.yse_compile.proofs.SameBetter.{better_kept, crossings_kept}
+use Rattle.yse_compile.proofs.{FitLemmas.fit_kept, SameBetter.better_kept, SameBetter.crossings_kept}
 use Rattle.yse_compile.proofs.law.one_better_homes.Goals as goal
 
 pub returns-clause-better : goal.returns-clause-better

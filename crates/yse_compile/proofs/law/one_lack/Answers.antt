@@ -1,5 +1,4 @@
-use Rattle.yse_compile.proofs.OneNone.{one_none}
-use Rattle.yse_compile.proofs.lemmas.SameHomes.{refused_kept}
+use Rattle.yse_compile.proofs.{OneNone.one_none, lemmas.SameHomes.refused_kept}
 use Rattle.yse_compile.proofs.law.one_lack.Goals as goal
 
 pub returns : goal.returns

@@ -1,5 +1,4 @@
-use Rattle.std.proofs.Common.{◌≤◌, arith}
-use Rattle.std.proofs.lemmas.List.Sums.{count_by-le-length}
+use Rattle.std.proofs.{Common.◌≤◌, Common.arith, lemmas.List.Sums.count_by-le-length}
 use Rattle.limits.specs.declared.TheConstants.{MAX_SIGNALS}
 use Rattle.net_defs.specs.Valid.{is_input}
 use Rattle.node_defs.specs.WellFormed.{column_count}

@@ -1,8 +1,7 @@
 -- What the command came to, or why there is none.
 use Rattle.std.proofs.Common.{◌≡◌, ◌∙◌, sym, refl, map, inl, inr, None}
 use Rattle.std.specs.String.{string_bytes}
-use Rattle.cmd_words.specs.declared.command.Command.{Command}
-use Rattle.cmd_words.specs.Forms.{HasForm}
+use Rattle.cmd_words.specs.{declared.command.Command.Command, Forms.HasForm}
 use Rattle.cmd_words.specs.declared.command.WordNo.TheVariants.{Usage, Memory}
 use Rattle.refusals.specs.declared.refusal.Refusal.TheVariants as refusal
 use Rattle.yse_commands.specs.Expected.{Expected}

@@ -1,8 +1,6 @@
 -- The outcome that the command came to, and what the gates were told.
 use Rattle.std.proofs.Common.{◌∙◌, sym, ap, subst, Ok, Err}
-use Rattle.yse_commands.specs.Outputs.{wrote_in}
-use Rattle.yse_commands.specs.Refusals.{outcome_of}
-use Rattle.yse_commands.specs.Told.{TellsTurns, wrote_at}
+use Rattle.yse_commands.specs.{Outputs.wrote_in, Refusals.outcome_of, Told.TellsTurns, Told.wrote_at}
 use Rattle.yse_commands.proofs.lemmas.VisitedLemmas.{refused_wrote, tells_ended}
 use Rattle.yse_top.proofs.CallLemmas.{refused_ends}
 use Rattle.yse_top.proofs.call.obey.Goals as goal

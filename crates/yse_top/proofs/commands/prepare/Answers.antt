@@ -1,6 +1,5 @@
 -- Each command comes to its chain; those that tell no gate read files alone, and a generated design and help need none.
-use Rattle.yse_commands.specs.commands.Help.{ExpectedHelp}
-use Rattle.yse_commands.specs.commands.Large.{ExpectedLarge}
+use Rattle.yse_commands.specs.commands.{Help.ExpectedHelp, Large.ExpectedLarge}
 use Rattle.yse_commands.proofs.lemmas.ChainLemmas.{comes_silent, follows_here}
 use Rattle.yse_top.proofs.commands.prepare.Goals as goal
 

@@ -3,8 +3,7 @@ use Rattle.std.proofs.Common.{◌∙◌, ap, inl, inr, subst}
 use Rattle.std.specs.Io.KnownBytes.{append_known}
 use Rattle.edge_io.specs.Writing.{TakesProperPrefix}
 use Rattle.yse_commands.specs.code.Endings.{status_after}
-use Rattle.yse_commands.proofs.EndingLemmas.{ended_output, ended_status, told_line}
-use Rattle.yse_commands.proofs.lemmas.VisitedLemmas.{output_whole}
+use Rattle.yse_commands.proofs.{EndingLemmas.ended_output, EndingLemmas.ended_status, EndingLemmas.told_line, lemmas.VisitedLemmas.output_whole}
 use Rattle.yse_top.proofs.ending.end.Goals as goal
 
 pub returns-in-Ok-clause-ends : goal.returns-in-Ok-clause-ends

@@ -1,98 +1,63 @@
 -- The chain of each command, link by link.
 use Rattle.std.proofs.Common.{◌≡◌, ◌∙◌, ◌↔◌, ◌⊎◌, inl, inr, ◌≢◌, ◌<◌, ◌≤◌, sym, ap, refl, subst, ℕ, List, [], ◌∷◌, ◌++◌, length, Option, Some, None, Ok, Err}
-use Rattle.std.specs.List.{All}
-use Rattle.std.specs.Option.{option_to_list}
 use Rattle.std.proofs.lemmas.List.{append-nil}
+use Rattle.std.specs.{List.All, Option.option_to_list}
 use Rattle.limits.specs.declared.TheConstants.{MAX_CELLS, MAX_FAULT_SIGNALS, MAX_LARGE_GATES, MAX_PACK_BITS, MAX_TEXT_BYTES}
-use Rattle.machine_text.specs.declared.machine.Machine.{Machine}
+use Rattle.machine_text.specs.{declared.machine.Machine.Machine, Machines.IsValid as IsValidMachine, Machines.default_machine, Machines.ports_of}
 use Rattle.machine_text.specs.Machines as machine_text
-use Rattle.machine_text.specs.Machines.{IsValid as IsValidMachine, default_machine, ports_of}
 use Rattle.net_defs.specs.Valid.{Ascends, IsFault, IsValid, IsValidTiming, input_count}
-use Rattle.yse_compile.specs.Chosen.{FitsBy}
-use Rattle.yse_compile.specs.Designs.{IsAcyclic}
+use Rattle.net_defs.specs.declared.{faults.Fault.Fault, homes.HomeChoice.HomeChoice, netlist.Netlist.Netlist, stimulus.Stimulus.Stimulus, timing.Timing.Timing}
+use Rattle.net_defs.specs.{Canonical.canonical_text, Loops.IsCircle, Loops.IsOrder, Loops.OrderOrLoop, Reference.HasOneSimulation, Time.turn_count}
+use Rattle.net_defs.specs.Trace.{IsTrace}
+use Rattle.yse_compile.specs.{Chosen.FitsBy, Designs.IsAcyclic}
 use Rattle.yse_compile.proofs.lemmas.DesignExists.{HasDesign}
 use Rattle.text_lines.specs.Answers.{IsReader}
-use Rattle.net_defs.specs.declared.faults.Fault.{Fault}
-use Rattle.net_defs.specs.declared.homes.HomeChoice.{HomeChoice}
-use Rattle.net_defs.specs.declared.netlist.Netlist.{Netlist}
-use Rattle.net_defs.specs.declared.stimulus.Stimulus.{Stimulus}
-use Rattle.net_defs.specs.declared.timing.Timing.{Timing}
-use Rattle.net_defs.specs.Canonical.{canonical_text}
-use Rattle.net_defs.specs.Loops.{IsCircle, IsOrder, OrderOrLoop}
-use Rattle.net_defs.specs.Reference.{HasOneSimulation}
-use Rattle.net_defs.specs.Time.{turn_count}
-use Rattle.net_defs.specs.Trace.{IsTrace}
-use Rattle.image_defs.specs.declared.image.Image.{Image}
-use Rattle.image_defs.specs.WellFormed.{IsWellFormed}
-use Rattle.image_defs.specs.Places.{Each}
-use Rattle.image_defs.specs.Claimed.{HasClaims}
-use Rattle.image_defs.specs.declared.file.ImageFile.{ImageFile}
+use Rattle.image_defs.specs.{declared.image.Image.Image, WellFormed.IsWellFormed, Places.Each, Claimed.HasClaims, declared.file.ImageFile.ImageFile}
 use Rattle.image_file.specs.Ranges as image_file
 use Rattle.image_file.specs.Reading as image_faults
-use Rattle.event_defs.specs.Linked.{AreLinkedAlike}
-use Rattle.event_defs.specs.Steps.{AreFirstSteps, CoreState}
-use Rattle.event_defs.specs.declared.place.CoreStep.{CoreStep}
-use Rattle.stim_text.specs.Orders.{steps_of}
+use Rattle.event_defs.specs.{Linked.AreLinkedAlike, Steps.AreFirstSteps, Steps.CoreState, declared.place.CoreStep.CoreStep}
+use Rattle.stim_text.specs.{Orders.steps_of, declared.order.Order.Order, declared.lanes.Lanes.Lanes}
 use Rattle.bench_read.specs.Faults as bench
 use Rattle.bench_read.specs.GateLists as gate_lists
 use Rattle.bench_read.specs.StuckLists as stuck_lists
 use Rattle.bench_read.specs.Reads as bench_reads
-use Rattle.stim_text.specs.declared.order.Order.{Order}
 use Rattle.stim_text.specs.Orders as orders
 use Rattle.stim_text.specs.Stimuli as stim
-use Rattle.cmd_words.specs.declared.command.Command.{Command}
+use Rattle.cmd_words.specs.{declared.command.Command.Command, declared.command.RunWords.RunWords, Asked.asked, Forms.HasForm, Forms.IsInRange}
+use Rattle.cmd_words.specs.declared.topic.Topic.{Topic}
 use Rattle.cmd_words.specs.declared.command.Command.TheVariants as command
-use Rattle.cmd_words.specs.declared.command.RunWords.{RunWords}
-use Rattle.cmd_words.specs.Asked.{asked}
 use Rattle.large_run.specs.Runs.{IsSummaryOf}
 use Rattle.refusals.specs.declared.status.Status.TheVariants as status
 use Rattle.stim_text.specs.LaneTexts as lane_texts
-use Rattle.stim_text.specs.declared.lanes.Lanes.{Lanes}
 use Rattle.edge_io.specs.Writing.{joined}
-use Rattle.cover_sim.specs.Lines.{cover_lines}
-use Rattle.cover_sim.specs.Marks.{HasOneCoverage, HaveOneCoverage}
-use Rattle.fault_sim.specs.Lines.{fault_lines}
-use Rattle.fault_sim.specs.Verdicts.{AreAllFaults, HasOneList, HaveOneList}
+use Rattle.cover_sim.specs.{Lines.cover_lines, Marks.HasOneCoverage, Marks.HaveOneCoverage}
+use Rattle.fault_sim.specs.{Lines.fault_lines, Verdicts.AreAllFaults, Verdicts.HasOneList, Verdicts.HaveOneList}
 use Rattle.call_steps.specs.Checks.{After, Ends, Writes, WritesTold, IsFaultListOf, IsLanesOf, HasFewBits, HasFewLaneCells, HasFewSignals, cell_count, lane_cell_count, memory_bits, IsMachineOf, IsNetlistOf, HasNoLoop, HasRoom, IsStimulusOf, HasFewCells, IsListOf, IsOrderOf, listing}
-use Rattle.cmd_words.specs.Forms.{HasForm, IsInRange}
-use Rattle.refusals.specs.declared.status.Status.{Status}
-use Rattle.yse_commands.specs.Expected.{Expected, ExpectedOf, Asks}
-use Rattle.yse_top.specs.Law.{IsProper, HasOutcome}
-use Rattle.refusals.specs.Lines.{usage_line, machine_line, netlist_line, stimulus_line, cells_line, bits_limit_line, signals_line, lanes_line, order_line, list_line, faults_line, image_line}
 use Rattle.call_steps.specs.Outcome.{Outcome, Turns, done, out_of_memory, refusal, telling}
-use Rattle.call_steps.specs.Designs.{Placed, Prepared}
 use Rattle.call_steps.specs.Passing.{AfterPlaced, AfterPlacedOn, AfterReady, Continuation, placed}
-use Rattle.call_steps.specs.Readings.{Reading}
-use Rattle.yse_commands.specs.Told.{lanes_turns, large_turns, run_turns}
-use Rattle.yse_commands.specs.Orders.{EndsInOrder}
-use Rattle.cmd_words.specs.declared.topic.Topic.{Topic}
-use Rattle.help_text.specs.Texts.{text_of}
-use Rattle.yse_commands.specs.Words.{files_of, files_named}
-use Rattle.yse_commands.specs.commands.Cover.{CoversIn, ExpectedCover, IsCoverage, WritesCoverage}
-use Rattle.yse_commands.specs.commands.Exec.{ExpectedExec, OnImage, RunsImage}
-use Rattle.call_steps.specs.Images.{IsAccepted, IsImageFileOf}
-use Rattle.yse_commands.specs.commands.Fault.{AfterListed, ExpectedFault, FaultsIn, IsFaultList, ListsFaults, listed_or_all}
-use Rattle.yse_commands.specs.commands.Help.{ExpectedHelp}
-use Rattle.yse_commands.specs.commands.Large.{ExpectedLarge}
 use Rattle.call_steps.specs.Files.{AfterFaultList, AfterFit, AfterImage, AfterLanes, AfterList, AfterMachine, AfterMatch, AfterNetlist, AfterStimulus}
+use Rattle.call_steps.specs.{Designs.Placed, Designs.Prepared, Readings.Reading, Images.IsAccepted, Images.IsImageFileOf}
+use Rattle.refusals.specs.Lines.{usage_line, machine_line, netlist_line, stimulus_line, cells_line, bits_limit_line, signals_line, lanes_line, order_line, list_line, faults_line, image_line}
+use Rattle.refusals.specs.declared.status.Status.{Status}
+use Rattle.yse_commands.specs.commands.Cover.{CoversIn, ExpectedCover, IsCoverage, WritesCoverage}
+use Rattle.yse_commands.specs.commands.Fault.{AfterListed, ExpectedFault, FaultsIn, IsFaultList, ListsFaults, listed_or_all}
 use Rattle.yse_commands.specs.commands.Pack.{AreLaneTraces, ExpectedPack, KeepsLanes, Packs}
-use Rattle.yse_commands.specs.commands.Compile.{IsImageTextOf}
-use Rattle.yse_commands.specs.commands.Layout.{ExpectedLayout, IsSheetOf}
-use Rattle.yse_commands.specs.commands.Plan.{IsReportOf}
-use Rattle.yse_commands.specs.declared.layout.Sheet.{Sheet}
-use Rattle.yse_commands.specs.declared.layout.Sheet.TheVariants as sheet
 use Rattle.yse_commands.specs.commands.Run.{AfterLoop, EndsAfter, EndsByOrder, ExpectedOrder, ExpectedRefer, ExpectedRun, KeepsTrace, OrdersOn, RunsOn, RunsTo, WritesTrace}
-use Rattle.yse_commands.specs.commands.Show.{ExpectedShow}
-use Rattle.yse_top.proofs.AcceptedLemmas.{accepted_check, interchangeable}
+use Rattle.yse_commands.specs.{Expected.Expected, Expected.ExpectedOf, Expected.Asks, Told.lanes_turns, Told.large_turns, Told.run_turns, Orders.EndsInOrder}
+use Rattle.yse_commands.specs.{Words.files_of, Words.files_named, commands.Exec.ExpectedExec, commands.Exec.OnImage, commands.Exec.RunsImage}
+use Rattle.yse_commands.specs.commands.{Help.ExpectedHelp, Large.ExpectedLarge, Compile.IsImageTextOf, Layout.ExpectedLayout, Layout.IsSheetOf, Plan.IsReportOf}
+use Rattle.yse_commands.specs.{declared.layout.Sheet.Sheet, commands.Show.ExpectedShow}
+use Rattle.yse_top.specs.Law.{IsProper, HasOutcome}
+use Rattle.help_text.specs.Texts.{text_of}
+use Rattle.yse_commands.specs.declared.layout.Sheet.TheVariants as sheet
 use Rattle.yse_top.proofs.CommandLemmas.{IsCommand, command_after, command_file, command_ends, not_words}
-use Rattle.yse_top.proofs.TraceLemmas.{traces_only, traces_some}
 use Rattle.yse_top.proofs.OrderLemmas.{DecidesOrder, done_alike, order_ending, order_outcome}
-use Rattle.yse_top.proofs.TextLemmas.{HasOneImage, one_text, some_text}
-use Rattle.yse_top.proofs.OutcomeLemmas.{outcome_after, outcome_ends, outcome_writes}
 use Rattle.yse_top.proofs.ProperLemmas.{IsCheck, IsAnswered, alike, full_ending, memory_status, proper_after, writes_ending}
-use Rattle.yse_top.proofs.ChoiceLemmas.{HasHomes, has_homes}
-use Rattle.yse_top.proofs.ReportLemmas.{AreOnce, one_report, some_report}
 use Rattle.yse_top.proofs.CheckLemmas.{default_is_valid, reads_check, loop_check, IsRoomLaw, room_check, size_check, trace_only, trace_some}
+use Rattle.yse_top.proofs.{AcceptedLemmas.accepted_check, AcceptedLemmas.interchangeable, TraceLemmas.traces_only, TraceLemmas.traces_some}
+use Rattle.yse_top.proofs.TextLemmas.{HasOneImage, one_text, some_text}
+use Rattle.yse_top.proofs.{OutcomeLemmas.outcome_after, OutcomeLemmas.outcome_ends, OutcomeLemmas.outcome_writes, ChoiceLemmas.HasHomes, ChoiceLemmas.has_homes}
+use Rattle.yse_top.proofs.ReportLemmas.{AreOnce, one_report, some_report}
 use Rattle.yse_top.proofs.law.calls_are_proper.Goals as goal
 
 -- the laws of the layers below

@@ -1,19 +1,13 @@
 -- The chains of the three calls, and how the last one ended.
 use Rattle.std.proofs.Common.{◌≡◌, ◌∙◌, sym, ap, subst, ◌⊎◌, inl, inr, List, Some, ℕ}
 use Rattle.std.specs.Io.KnownBytes.{append_known}
-use Rattle.cmd_words.specs.Asked.{asked}
-use Rattle.cmd_words.specs.declared.command.Command.{Command}
+use Rattle.cmd_words.specs.{Asked.asked, declared.command.Command.Command, Forms.HasForm}
 use Rattle.cmd_words.specs.declared.command.Command.TheVariants as command
-use Rattle.cmd_words.specs.Forms.{HasForm}
-use Rattle.call_steps.specs.Outcome.{Outcome}
-use Rattle.call_steps.specs.Readings.{Reading}
+use Rattle.call_steps.specs.{Outcome.Outcome, Readings.Reading}
 use Rattle.refusals.specs.declared.status.Status.TheVariants as status
-use Rattle.yse_commands.specs.Expected.{Expected, ExpectedOf}
-use Rattle.yse_commands.specs.Words.{files_named}
+use Rattle.yse_commands.specs.{Expected.Expected, Expected.ExpectedOf, Words.files_named}
 use Rattle.yse_top.specs.Law.{TellsWords}
-use Rattle.yse_top.proofs.CheckLemmas.{default_is_valid}
-use Rattle.yse_top.proofs.EndLemmas.{fault_rose}
-use Rattle.yse_top.proofs.ProperLemmas.{memory_status}
+use Rattle.yse_top.proofs.{CheckLemmas.default_is_valid, EndLemmas.fault_rose, ProperLemmas.memory_status}
 use Rattle.yse_top.proofs.SequelLemmas.{IsEndOf, Laws, sequel_ends}
 use Rattle.yse_top.proofs.law.compiled_images_run.Goals as goal
 

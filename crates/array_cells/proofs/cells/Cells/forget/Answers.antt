@@ -1,7 +1,5 @@
 use Rattle.std.proofs.Common.{◌≡◌, ◌*◌, ◌<◌, ℕ, length, map, ap, ◌∙◌}
-use Rattle.logic_four.specs.declared.V4.TheVariants.{Undef}
-use Rattle.logic_four.specs.Memory.{undefined_word}
-use Rattle.logic_four.specs.Packed.{packed_value}
+use Rattle.logic_four.specs.{declared.V4.TheVariants.Undef, Memory.undefined_word, Packed.packed_value}
 use Rattle.logic_four.proofs.lemmas.PackedLemmas.{codes_of_filled, value-replicate}
 use Rattle.array_cells.specs.declared.sheet.TheConstants.{BLANK}
 use Rattle.array_cells.proofs.WordLemmas.{words_of-forgotten}

@@ -1,7 +1,6 @@
 use Rattle.std.proofs.Common.{◌≡◌, length, sym, ap, ◌∙◌, arith}
 use Rattle.logic_four.proofs.lemmas.MemoryLemmas.{bits_number-within}
-use Rattle.array_cells.proofs.AddressLemmas.{few_bits, address_of-known, address_of-unknown}
-use Rattle.array_cells.proofs.WordLemmas.{length-words_of}
+use Rattle.array_cells.proofs.{AddressLemmas.few_bits, AddressLemmas.address_of-known, AddressLemmas.address_of-unknown, WordLemmas.length-words_of}
 use Rattle.array_cells.proofs.cells.Cells.word_number.Goals as goal
 
 pub number_of-requires : goal.number_of-requires

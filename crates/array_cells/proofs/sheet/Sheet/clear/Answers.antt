@@ -1,7 +1,6 @@
 use Rattle.std.proofs.Common.{◌≡◌, length, replicate, rules, sym, ap, ◌∙◌}
 use Rattle.std.proofs.lemmas.List.{length-replicate}
-use Rattle.array_cells.specs.code.Sheets.{words_after}
-use Rattle.array_cells.specs.declared.sheet.TheConstants.{BLANK}
+use Rattle.array_cells.specs.{code.Sheets.words_after, declared.sheet.TheConstants.BLANK}
 use Rattle.array_cells.proofs.SheetLemmas.{as_many, words_after-cleared, words_after-seen}
 use Rattle.array_cells.proofs.sheet.Sheet.clear.Goals as goal
 

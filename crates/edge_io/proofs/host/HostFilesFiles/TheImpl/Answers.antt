@@ -1,5 +1,4 @@
-use Rattle.std.proofs.Common.{arith}
-use Rattle.std.proofs.lemmas.Grind.{common_steps}
+use Rattle.std.proofs.{Common.arith, lemmas.Grind.common_steps}
 use Rattle.edge_io.proofs.host.HostFilesFiles.TheImpl.Goals as goal
 
 pub start-tells : goal.start-tells

@@ -1,7 +1,5 @@
 use Rattle.std.proofs.Common.{ap, length, subst, sym, ℕ, ◌∙◌}
-use Rattle.machine_run.specs.Crews.{in_next_block}
-use Rattle.machine_run.specs.Kept.{IsKept, view_of}
-use Rattle.machine_run.specs.code.Moves.{AreMoved, HasGoneOn}
+use Rattle.machine_run.specs.{Crews.in_next_block, Kept.IsKept, Kept.view_of, code.Moves.AreMoved, code.Moves.HasGoneOn}
 use Rattle.machine_run.proofs.KeptLemmas.{back, can_go_on_all, kept_in_next}
 use Rattle.machine_run.proofs.crew.Crew.go_on.Goals as goal
 

@@ -1,8 +1,7 @@
 use Rattle.std.proofs.Common.{ap, arith, length, subst}
 use Rattle.std.proofs.lemmas.Option.{get_or_from_slice_get, slice_get_within}
 use Rattle.port_run.specs.contracts.seated.SeatedStepper.TheImpl as seated
-use Rattle.machine_run.specs.Crews.{CrewView, IsHostOfCrew}
-use Rattle.machine_run.specs.Kept.{view_of}
+use Rattle.machine_run.specs.{Crews.CrewView, Crews.IsHostOfCrew, Kept.view_of}
 use Rattle.machine_run.proofs.HostLemmas.{host_of_crew, host_there, not_other}
 use Rattle.machine_run.proofs.crew.Crew.host.Goals as goal
 

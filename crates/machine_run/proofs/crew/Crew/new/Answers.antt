@@ -1,8 +1,7 @@
 use Rattle.std.proofs.Common.{ap, arith, subst, sym}
 use Rattle.std.proofs.lemmas.Option.{slice_get_within}
 use Rattle.slot_words.specs.plain.Passes.{IsFirstPass}
-use Rattle.machine_run.specs.Crews.{at_first}
-use Rattle.machine_run.specs.Dealt.{AreDealt}
+use Rattle.machine_run.specs.{Crews.at_first, Dealt.AreDealt}
 use Rattle.machine_run.proofs.crew.Crew.new.Goals as goal
 
 pub workers_of-requires-clause-passes : goal.workers_of-requires-clause-passes

@@ -1,8 +1,7 @@
 use Rattle.std.proofs.Common.{ap, ap₂, length, min, subst, sym, ℕ, ◌+◌, ◌∙◌}
 use Rattle.crew_run.specs.Lending.{AllCanRunWith, AllHaveRunWith}
 use Rattle.port_run.specs.contracts.seated.SeatedStepper.TheImpl as seated
-use Rattle.machine_run.specs.Crews.{at_block_end}
-use Rattle.machine_run.specs.Kept.{IsKept, view_of}
+use Rattle.machine_run.specs.{Crews.at_block_end, Kept.IsKept, Kept.view_of}
 use Rattle.machine_run.proofs.KeptLemmas.{back, can_run_block, can_tell_at_end, in_place_at_end, kept_at_end, visits_at_end}
 use Rattle.machine_run.proofs.crew.Crew.run_block.Goals as goal
 

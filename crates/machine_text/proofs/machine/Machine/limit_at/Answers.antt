@@ -1,7 +1,6 @@
 use Rattle.std.proofs.Common.{refl, rules, tests, sym, ap, ◌∙◌}
+use Rattle.std.proofs.lemmas.Iterator.{YieldsList-from_slice, Search.find_from_yields_List}
 use Rattle.std.specs.Option.{option_map}
-use Rattle.std.proofs.lemmas.Iterator.{YieldsList-from_slice}
-use Rattle.std.proofs.lemmas.Iterator.Search.{find_from_yields_List}
 use Rattle.machine_text.specs.Limits.{is_at}
 use Rattle.machine_text.proofs.machine.Machine.limit_at.Goals as goal
 

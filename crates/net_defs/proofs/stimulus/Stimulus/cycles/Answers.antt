@@ -1,7 +1,5 @@
 use Rattle.std.proofs.Common.{◌≡◌, ◌∙◌, sym, ℕ, ◌+◌, ◌<◌, ◌≤◌, List, [], ◌∷◌, ◌++◌, length, take, get_or, replicate, ap, arith, length-append, append-nil}
-use Rattle.std.proofs.lemmas.List.{take_more, length-replicate}
-use Rattle.std.proofs.lemmas.List.Folds.{length-flat_map-take}
-use Rattle.std.proofs.lemmas.Grind.{flat_map-append}
+use Rattle.std.proofs.lemmas.{List.take_more, List.length-replicate, List.Folds.length-flat_map-take, Grind.flat_map-append}
 use Rattle.std.specs.List.{flat_map}
 use Rattle.logic_four.specs.declared.V4.{V4}
 use Rattle.net_defs.specs.declared.stimulus.StimRow.{StimRow}

@@ -1,18 +1,15 @@
 use Rattle.std.proofs.Common.{◌∙◌, ◌<◌, ◌≡◌, ◌≤◌, ◌-◌, length, get_or, slice_set, ap, subst, refl, arith}
-use Rattle.std.specs.List.{refill}
 use Rattle.std.proofs.lemmas.Bool.{false≢true}
+use Rattle.std.specs.List.{refill}
 use Rattle.event_defs.specs.declared.place.CoreStep.TheVariants.{Moved, NotYet}
 use Rattle.event_defs.specs.declared.place.Action.TheVariants as action
 use Rattle.event_defs.specs.declared.place.Event.TheVariants as event
-use Rattle.order_run.specs.declared.core_run.Core.TheInside.{Inside}
-use Rattle.order_run.specs.Core.{Applies, CoreView}
-use Rattle.order_run.specs.code.Core.{IsUpcoming}
-use Rattle.order_run.specs.Kept.{IsKept, view_of}
+use Rattle.order_run.specs.{declared.core_run.Core.TheInside.Inside, Core.Applies, Core.CoreView, code.Core.IsUpcoming, Kept.IsKept, Kept.view_of}
 use Rattle.order_run.specs.code.CorePorts.{core_port_asked}
 use Rattle.order_run.proofs.CoreLemmas.{ask_moves, ask_waits, at_core_port, inside_of, known_within, reader_within, replaced, core_port_in, core_port_low, core_port_there, upcoming_of}
 use Rattle.order_run.proofs.CorePortLemmas.{not_less}
-use Rattle.order_run.proofs.core_run.Core.ask.Goals as goal
 use Rattle.order_run.proofs.core_run.Core.ask.Goals.{After-self, After-turn-turn, After-ask}
+use Rattle.order_run.proofs.core_run.Core.ask.Goals as goal
 
 -- the core as it is made, and the next event of its port
 module _ (c : After-self) where

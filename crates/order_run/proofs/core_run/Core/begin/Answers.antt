@@ -2,9 +2,9 @@ use Rattle.std.proofs.Common.{◌∙◌, ◌*◌, length, get_or, replicate, ap,
 use Rattle.std.proofs.lemmas.Option.{get_or_from_slice_get}
 use Rattle.event_defs.specs.Row.{send_count}
 use Rattle.order_run.proofs.StartLemmas.{Begins, is_start, start_kept, start_sound}
+use Rattle.order_run.proofs.core_run.Core.begin.Goals.{In_ok-core_ports}
 use Rattle.order_run.specs.declared.core_run.Core.TheInside.{Inside}
 use Rattle.order_run.proofs.core_run.Core.begin.Goals as goal
-use Rattle.order_run.proofs.core_run.Core.begin.Goals.{In_ok-core_ports}
 
 -- the core that is made
 abbrev made : In_ok-core_ports → Inside

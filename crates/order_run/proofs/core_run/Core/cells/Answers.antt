@@ -1,7 +1,6 @@
 use Rattle.std.proofs.Common.{◌∙◌, ◌≤◌, length, ap, ap₂, subst, sym}
 use Rattle.net_defs.specs.declared.stimulus.Stimulus.{Stimulus}
-use Rattle.image_defs.specs.declared.image.Image.{Image}
-use Rattle.image_defs.specs.Frames.{shown}
+use Rattle.image_defs.specs.{declared.image.Image.Image, Frames.shown}
 use Rattle.port_host.specs.Rows.{printed_sources}
 use Rattle.order_run.specs.Core.{CoreView, rows_of}
 use Rattle.order_run.proofs.RoundLemmas.{first_here, host_there, image_here, stimulus_here, is_host, rows_here}

@@ -1,7 +1,5 @@
 use Rattle.std.proofs.Common.{◌≡◌, ◌<◌, length, subst, sym}
-use Rattle.order_run.specs.declared.core_ports.CorePort.{CorePort}
-use Rattle.order_run.specs.Core.{CoreView}
-use Rattle.order_run.specs.code.Core.{IsUpcoming}
+use Rattle.order_run.specs.{declared.core_ports.CorePort.CorePort, Core.CoreView, code.Core.IsUpcoming}
 use Rattle.order_run.proofs.CoreLemmas.{known_wide, next_seen, same_core_port, core_port_in}
 use Rattle.order_run.proofs.core_run.Core.next.Goals as goal
 

@@ -3,14 +3,11 @@ use Rattle.event_defs.specs.declared.place.CoreStep.TheVariants.{Moved}
 use Rattle.event_defs.specs.declared.place.Action.TheVariants as action
 use Rattle.event_defs.specs.declared.place.Event.TheVariants as event
 use Rattle.port_walk.specs.Placed.{CanPut}
-use Rattle.order_run.specs.declared.core_run.Core.TheInside.{Inside}
-use Rattle.order_run.specs.Core.{Applies, CoreView}
-use Rattle.order_run.specs.code.Core.{IsUpcoming}
-use Rattle.order_run.specs.Kept.{IsKept, view_of}
+use Rattle.order_run.specs.{declared.core_run.Core.TheInside.Inside, Core.Applies, Core.CoreView, code.Core.IsUpcoming, Kept.IsKept, Kept.view_of}
 use Rattle.order_run.specs.code.CorePorts.{HasPutRoom, core_port_put}
 use Rattle.order_run.proofs.CoreLemmas.{at_core_port, can_put, early_turn, inside_of, put_moves, put_room, replaced, core_port_in, core_port_low, core_port_there, upcoming_of}
-use Rattle.order_run.proofs.core_run.Core.put.Goals as goal
 use Rattle.order_run.proofs.core_run.Core.put.Goals.{After-self, After-put}
+use Rattle.order_run.proofs.core_run.Core.put.Goals as goal
 use Rattle.std.specs.List.{refill}
 
 -- the core as it is made, and the next event of its port

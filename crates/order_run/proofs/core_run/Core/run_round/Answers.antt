@@ -1,7 +1,6 @@
 use Rattle.std.proofs.Common.{◌≡◌, length, ap, subst, arith}
 use Rattle.event_defs.proofs.lemmas.JoinLemmas.{moves_few}
-use Rattle.order_run.specs.Core.{CoreView}
-use Rattle.order_run.specs.code.Core.{HasStepped, IsReady}
+use Rattle.order_run.specs.{Core.CoreView, code.Core.HasStepped, code.Core.IsReady}
 use Rattle.order_run.proofs.RoundLemmas.{none_stepped, one_stepped, ready_of, round_left, round_made, round_none, round_over, round_sound}
 use Rattle.order_run.proofs.core_run.Core.run_round.Goals as goal
 

@@ -1,18 +1,15 @@
 use Rattle.std.proofs.Common.{◌<◌, length, subst, refl}
-use Rattle.std.specs.List.{refill}
 use Rattle.std.proofs.lemmas.Bool.{false≢true}
+use Rattle.std.specs.List.{refill}
 use Rattle.event_defs.specs.declared.place.CoreStep.TheVariants.{Moved, NotYet}
 use Rattle.event_defs.specs.declared.place.Action.TheVariants as action
 use Rattle.event_defs.specs.declared.place.Event.TheVariants as event
 use Rattle.port_walk.specs.Placed.{CanTake, CanTakeValue}
-use Rattle.order_run.specs.declared.core_run.Core.TheInside.{Inside}
-use Rattle.order_run.specs.Core.{Applies, CoreView}
-use Rattle.order_run.specs.code.Core.{IsUpcoming}
-use Rattle.order_run.specs.Kept.{IsKept, view_of}
+use Rattle.order_run.specs.{declared.core_run.Core.TheInside.Inside, Core.Applies, Core.CoreView, code.Core.IsUpcoming, Kept.IsKept, Kept.view_of}
 use Rattle.order_run.specs.code.CorePorts.{HasTakeRoom, IsWordRead, core_port_taken}
 use Rattle.order_run.proofs.CoreLemmas.{at_core_port, can_take, can_take_value, inside_of, replaced, core_port_in, core_port_low, core_port_there, take_moves, take_room, take_waits, upcoming_of}
-use Rattle.order_run.proofs.core_run.Core.take.Goals as goal
 use Rattle.order_run.proofs.core_run.Core.take.Goals.{After-self, After-read-word, After-take}
+use Rattle.order_run.proofs.core_run.Core.take.Goals as goal
 
 -- the core as it is made, and the next event of its port
 module _ (c : After-self) where

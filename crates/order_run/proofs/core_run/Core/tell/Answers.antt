@@ -4,14 +4,11 @@ use Rattle.event_defs.specs.declared.place.CoreStep.TheVariants.{Moved}
 use Rattle.event_defs.specs.declared.place.Action.TheVariants as action
 use Rattle.event_defs.specs.declared.place.Event.TheVariants as event
 use Rattle.port_walk.specs.Placed.{IsEnding}
-use Rattle.order_run.specs.declared.core_run.Core.TheInside.{Inside}
-use Rattle.order_run.specs.Core.{Applies, CoreView}
-use Rattle.order_run.specs.code.Core.{IsUpcoming}
-use Rattle.order_run.specs.Kept.{IsKept, view_of}
+use Rattle.order_run.specs.{declared.core_run.Core.TheInside.Inside, Core.Applies, Core.CoreView, code.Core.IsUpcoming, Kept.IsKept, Kept.view_of}
 use Rattle.order_run.specs.code.CorePorts.{core_port_told}
 use Rattle.order_run.proofs.CoreLemmas.{at_core_port, can_tell, inside_of, is_core_port, replaced, core_port_in, core_port_low, core_port_there, tell_moves, upcoming_of}
-use Rattle.order_run.proofs.core_run.Core.tell.Goals as goal
 use Rattle.order_run.proofs.core_run.Core.tell.Goals.{After-self, After-set}
+use Rattle.order_run.proofs.core_run.Core.tell.Goals as goal
 
 -- the core as it is made, and the next event of its port
 module _ (c : After-self) where

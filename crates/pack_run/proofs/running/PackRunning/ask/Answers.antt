@@ -1,9 +1,7 @@
 use Rattle.std.proofs.Common.{ap, length, subst, sym, ◌<◌, ◌∙◌}
 use Rattle.image_defs.specs.declared.image.Image.{Image}
 use Rattle.port_walk.specs.declared.upcoming.Upcoming.TheVariants as action
-use Rattle.pack_run.specs.Pairs.{placed}
-use Rattle.pack_run.specs.Steps.{IsStepOf}
-use Rattle.pack_run.specs.code.Steps.{IsUpcoming}
+use Rattle.pack_run.specs.{Pairs.placed, Steps.IsStepOf, code.Steps.IsUpcoming}
 use Rattle.pack_run.proofs.RunLemmas.{asked_step, reader_there}
 use Rattle.pack_run.proofs.running.PackRunning.ask.Goals as goal
 

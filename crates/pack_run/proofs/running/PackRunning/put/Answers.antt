@@ -1,8 +1,7 @@
 use Rattle.std.proofs.Common.{subst, sym}
 use Rattle.crew_run.specs.declared.stepper.Step.TheVariants.{Moved}
 use Rattle.port_walk.specs.declared.upcoming.Upcoming.TheVariants as action
-use Rattle.pack_run.specs.Steps.{IsStepOf}
-use Rattle.pack_run.specs.code.Steps.{IsUpcoming}
+use Rattle.pack_run.specs.{Steps.IsStepOf, code.Steps.IsUpcoming}
 use Rattle.pack_run.proofs.RunLemmas.{can_put, may_put, put_placed, put_step, put_values}
 use Rattle.pack_run.proofs.running.PackRunning.put.Goals as goal
 

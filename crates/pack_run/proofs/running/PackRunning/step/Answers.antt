@@ -1,10 +1,8 @@
 use Rattle.std.proofs.Common.{ap, length, refl, subst, sym, ◌∙◌}
 use Rattle.pack_walk.specs.Placed.{PlacedPack}
 use Rattle.slot_words.specs.packed.Passes.{IsFit}
-use Rattle.pack_run.specs.Pairs.{HasMadeAll}
-use Rattle.pack_run.specs.code.Steps.{IsUpcoming}
-use Rattle.pack_run.proofs.RunLemmas.{upcoming}
-use Rattle.pack_run.proofs.StepLemmas.{step_of}
+use Rattle.pack_run.specs.{Pairs.HasMadeAll, code.Steps.IsUpcoming}
+use Rattle.pack_run.proofs.{RunLemmas.upcoming, StepLemmas.step_of}
 use Rattle.pack_run.proofs.running.PackRunning.step.Goals as goal
 
 pub ask-requires-clause-next : goal.ask-requires-clause-next

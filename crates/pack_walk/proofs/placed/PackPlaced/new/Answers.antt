@@ -1,7 +1,5 @@
 use Rattle.std.proofs.Common.{◌*◌, ◌≡◌, ap, length, refl, sym, subst, arith}
-use Rattle.image_defs.specs.Places.{IsPort}
-use Rattle.image_defs.specs.Ports.{at_first}
-use Rattle.image_defs.specs.WellFormed.{IsWellFormed}
+use Rattle.image_defs.specs.{Places.IsPort, Ports.at_first, WellFormed.IsWellFormed}
 use Rattle.port_bank.specs.Packed.{PackPortView}
 use Rattle.port_walk.proofs.lemmas.KindLemmas.{port_image_there}
 use Rattle.pack_walk.proofs.PlacedLemmas.{all_valid, all_turns}

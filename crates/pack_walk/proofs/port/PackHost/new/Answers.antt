@@ -1,8 +1,7 @@
 use Rattle.std.proofs.Common.{◌≡◌, ◌∙◌, ◌-◌, ◌*◌, ap, refl}
-use Rattle.image_defs.specs.Places.{host_of}
+use Rattle.image_defs.specs.{Places.host_of, Ports.at_first}
 use Rattle.stim_text.specs.Lanes.{longest}
 use Rattle.port_host.proofs.HostLemmas.{host_found}
-use Rattle.image_defs.specs.Ports.{at_first}
 use Rattle.pack_walk.proofs.HostLemmas.{ready_new}
 use Rattle.pack_walk.proofs.port.PackHost.new.Goals as goal
 

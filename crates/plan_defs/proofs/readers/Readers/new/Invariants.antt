@@ -1,6 +1,5 @@
 use Rattle.std.proofs.Common.{◌≡◌, ℕ, List, length, Some, slice_get}
-use Rattle.plan_defs.specs.Readers.{IsReaderList}
-use Rattle.plan_defs.specs.code.UserRows.{AreUsers}
+use Rattle.plan_defs.specs.{Readers.IsReaderList, code.UserRows.AreUsers}
 use Rattle.plan_defs.proofs.readers.Readers.new.Given as goal
 
 abbrev pub invariant-items : goal.invariant-items

@@ -1,5 +1,4 @@
-use Rattle.std.proofs.Common.{ap, length, ◌∙◌}
-use Rattle.std.proofs.lemmas.List.{length-map}
+use Rattle.std.proofs.{Common.ap, Common.length, Common.◌∙◌, lemmas.List.length-map}
 use Rattle.plan_defs.specs.declared.switch.PortLinks.{PortLinks}
 use Rattle.plan_text.proofs.FigureLemmas.{counted_takes, read_lists}
 use Rattle.plan_text.proofs.figures.Figures.new.Goals as goal

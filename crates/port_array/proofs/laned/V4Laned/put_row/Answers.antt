@@ -1,5 +1,4 @@
-use Rattle.std.proofs.Common.{◌∙◌}
-use Rattle.std.proofs.lemmas.List.{map-id}
+use Rattle.std.proofs.{Common.◌∙◌, lemmas.List.map-id}
 use Rattle.port_array.proofs.laned.V4Laned.put_row.Goals as goal
 
 pub returns-clause-here : goal.returns-clause-here

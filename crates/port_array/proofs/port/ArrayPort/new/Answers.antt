@@ -1,10 +1,8 @@
 use Rattle.std.proofs.Common.{◌≡◌, ◌∙◌, ap, subst}
-use Rattle.image_defs.specs.Places.{IsPort}
-use Rattle.image_defs.specs.WellFormed.{IsArray}
+use Rattle.image_defs.specs.{Places.IsPort, WellFormed.IsArray}
 use Rattle.port_bank.proofs.lemmas.TurnLemmas.{port_image_found}
 use Rattle.port_array.specs.code.Lanes.{AreFirst}
-use Rattle.port_array.proofs.KeptLemmas.{blocks_few}
-use Rattle.port_array.proofs.LaneKept.{ready_first}
+use Rattle.port_array.proofs.{KeptLemmas.blocks_few, LaneKept.ready_first}
 use Rattle.port_array.proofs.port.ArrayPort.new.Goals as goal
 
 pub make_memories-requires : goal.make_memories-requires

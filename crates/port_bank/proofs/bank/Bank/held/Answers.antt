@@ -1,7 +1,6 @@
 use Rattle.std.proofs.Common.{◌≡◌, subst}
 use Rattle.image_defs.specs.Ports.{lane_port}
-use Rattle.port_bank.specs.Lanes.{InEach}
-use Rattle.port_bank.specs.Reads.{IsHeld}
+use Rattle.port_bank.specs.{Lanes.InEach, Reads.IsHeld}
 use Rattle.port_bank.proofs.LaneBanks.{held_first, held_edge, held_past}
 use Rattle.port_bank.proofs.bank.Bank.held.Goals as goal
 

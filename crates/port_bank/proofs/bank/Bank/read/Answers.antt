@@ -1,6 +1,5 @@
 use Rattle.std.proofs.Common.{subst}
-use Rattle.port_bank.specs.Reads.{IsRead}
-use Rattle.port_bank.specs.Words.{InEachLaneOf}
+use Rattle.port_bank.specs.{Reads.IsRead, Words.InEachLaneOf}
 use Rattle.port_bank.proofs.LaneBanks.{read_right}
 use Rattle.port_bank.proofs.bank.Bank.read.Goals as goal
 

@@ -1,7 +1,6 @@
 use Rattle.std.proofs.Common.{◌∙◌, ap}
 use Rattle.image_defs.specs.Ports.{lane_port}
-use Rattle.port_bank.specs.Flat.{operand_of}
-use Rattle.port_bank.specs.Reads.{IsRead, IsTaken}
+use Rattle.port_bank.specs.{Flat.operand_of, Reads.IsRead, Reads.IsTaken}
 use Rattle.port_bank.proofs.lemmas.LaneLemmas.{in_each, in_lane}
 use Rattle.port_bank.proofs.bank.Bank.take.Goals as goal
 

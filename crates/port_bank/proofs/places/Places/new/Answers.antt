@@ -1,7 +1,6 @@
 use Rattle.std.proofs.Common.{◌≡◌}
 use Rattle.logic_four.specs.declared.V4.TheVariants.{Undef}
-use Rattle.port_bank.proofs.lemmas.LaneLemmas.{in_lane}
-use Rattle.port_bank.proofs.LanePlaces.{blank_right}
+use Rattle.port_bank.proofs.{lemmas.LaneLemmas.in_lane, LanePlaces.blank_right}
 use Rattle.port_bank.proofs.places.Places.new.Goals as goal
 
 pub returns : goal.returns

@@ -1,6 +1,5 @@
 use Rattle.std.proofs.Common.{◌∙◌, ◌*◌, ◌<◌, ap, subst, sym}
-use Rattle.port_bank.specs.code.Places.{numbered}
-use Rattle.port_bank.specs.Places.{count, in_lane}
+use Rattle.port_bank.specs.{code.Places.numbered, Places.count, Places.in_lane}
 use Rattle.port_bank.proofs.LanePlaces.{read_value}
 use Rattle.port_bank.proofs.places.Places.value.Goals as goal
 

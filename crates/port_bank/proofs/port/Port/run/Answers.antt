@@ -1,7 +1,6 @@
 use Rattle.std.proofs.Common.{◌≡◌, ◌∙◌, get_or, ap, refl, arith}
 use Rattle.image_defs.specs.Ports.{CanExecute, after_execute, lane_port, value_in}
-use Rattle.port_bank.proofs.lemmas.LaneLemmas.{in_each, in_lane}
-use Rattle.port_bank.proofs.ItemLemmas.{can_execute, last_executed}
+use Rattle.port_bank.proofs.{lemmas.LaneLemmas.in_each, lemmas.LaneLemmas.in_lane, ItemLemmas.can_execute, ItemLemmas.last_executed}
 use Rattle.port_bank.specs.Runs.{CanRun, IsLastValue}
 use Rattle.port_bank.proofs.port.Port.run.Goals as goal
 

@@ -1,6 +1,5 @@
 use Rattle.std.proofs.Common.{◌≡◌}
-use Rattle.port_bank.specs.Runs.{HasRun, IsLastValue}
-use Rattle.port_bank.specs.Words.{InEachLaneOf}
+use Rattle.port_bank.specs.{Runs.HasRun, Runs.IsLastValue, Words.InEachLaneOf}
 use Rattle.port_bank.proofs.port.Port.run.Given as goal
 
 abbrev pub invariant-items : goal.invariant-items

@@ -1,6 +1,5 @@
 use Rattle.std.proofs.Common.{◌≡◌, ◌∙◌, ◌-◌, ap, refl}
-use Rattle.image_defs.specs.Places.{host_of}
-use Rattle.image_defs.specs.Ports.{at_first}
+use Rattle.image_defs.specs.{Places.host_of, Ports.at_first}
 use Rattle.port_host.proofs.HostLemmas.{host_found, room_made, ready_first}
 use Rattle.port_host.proofs.port.HostPort.new.Goals as goal
 

@@ -1,7 +1,6 @@
 use Rattle.std.proofs.Common.{◌≡◌, ◌∙◌, ◌<◌, length, ap, subst, sym}
 use Rattle.std.proofs.lemmas.Option.{slice_get_within}
-use Rattle.image_defs.specs.Places.{IsPort}
-use Rattle.image_defs.specs.WellFormed.{IsLogic}
+use Rattle.image_defs.specs.{Places.IsPort, WellFormed.IsLogic}
 use Rattle.port_bank.proofs.lemmas.TurnLemmas.{port_image_found}
 use Rattle.port_logic.specs.code.Ops.{AreForms}
 use Rattle.port_logic.proofs.TaskLemmas.{tasks_tabled, tasks_within, ready_first}

@@ -1,11 +1,10 @@
 use Rattle.std.proofs.Common.{ap, length, subst, sym, ◌<◌, ◌∙◌}
 use Rattle.image_defs.specs.declared.image.Image.{Image}
 use Rattle.event_defs.specs.declared.place.Action.TheVariants as action
-use Rattle.port_run.specs.Kept.{view_of}
-use Rattle.port_run.specs.Pairs.{placed, with_pass}
+use Rattle.port_run.specs.{Kept.view_of, Pairs.placed, Pairs.with_pass}
 use Rattle.port_run.proofs.RunLemmas.{HasStepped, asked_step, block_stays, inside, kept_after, reader_there, step_seen}
-use Rattle.port_run.proofs.running.Running.ask.Goals as goal
 use Rattle.port_run.proofs.running.Running.ask.Goals.{After-asked}
+use Rattle.port_run.proofs.running.Running.ask.Goals as goal
 
 pub ask-finished-requires-clause-reader : goal.ask-finished-requires-clause-reader
 ask-finished-requires-clause-reader c =

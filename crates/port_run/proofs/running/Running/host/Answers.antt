@@ -1,7 +1,6 @@
 use Rattle.std.proofs.Common.{MatchOption, subst, ◌≢◌}
 use Rattle.image_defs.specs.Places.{host_of}
-use Rattle.port_run.specs.Kept.{view_of}
-use Rattle.port_run.specs.Pairs.{IsHostOf, RunView}
+use Rattle.port_run.specs.{Kept.view_of, Pairs.IsHostOf, Pairs.RunView}
 use Rattle.port_run.proofs.RunLemmas.{host_of_run}
 use Rattle.port_run.proofs.running.Running.host.Goals as goal
 

@@ -3,8 +3,8 @@ use Rattle.event_defs.specs.declared.place.Event.TheVariants as event
 use Rattle.crew_run.specs.declared.stepper.Step.TheVariants.{Moved}
 use Rattle.port_run.specs.Kept.{view_of}
 use Rattle.port_run.proofs.RunLemmas.{HasStepped, block_stays, inside, kept_after, put_event, put_placed, step_seen}
-use Rattle.port_run.proofs.running.Running.put.Goals as goal
 use Rattle.port_run.proofs.running.Running.put.Goals.{After-put_done}
+use Rattle.port_run.proofs.running.Running.put.Goals as goal
 
 has_put : (c : After-put_done) → HasStepped c.self.inside Moved c.put.new.pass c.put_done.new.self
 has_put c =

@@ -1,10 +1,8 @@
 use Rattle.std.proofs.Common.{ap, length, refl, subst, sym, ◌∙◌}
 use Rattle.port_walk.specs.Placed.{PlacedPort}
 use Rattle.port_run.specs.code.Steps.{IsUpcoming}
-use Rattle.port_run.proofs.RunLemmas.{coming}
-use Rattle.port_run.proofs.lemmas.StepLemmas.{step_of}
+use Rattle.port_run.proofs.{RunLemmas.coming, lemmas.StepLemmas.step_of, running.Running.step.Goals.After-next}
 use Rattle.port_run.proofs.running.Running.step.Goals as goal
-use Rattle.port_run.proofs.running.Running.step.Goals.{After-next}
 
 pub next-requires : goal.next-requires
 next-requires c = ap length c.known.ensures.known ∙ (c.known.ensures.fit.wide ∙ sym (ap (λ (p : PlacedPort). length p.image.ports) c.self.invariant.port))

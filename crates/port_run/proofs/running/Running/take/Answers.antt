@@ -3,8 +3,8 @@ use Rattle.event_defs.specs.declared.place.Event.TheVariants as event
 use Rattle.crew_run.specs.declared.stepper.Step.TheVariants as step
 use Rattle.port_run.specs.Kept.{view_of}
 use Rattle.port_run.proofs.RunLemmas.{HasStepped, block_stays, inside, kept_after, may_take, missed_placed, missed_wait, step_seen, took_event, took_placed}
-use Rattle.port_run.proofs.running.Running.take.Goals as goal
 use Rattle.port_run.proofs.running.Running.take.Goals.{After-took, In-NotYet}
+use Rattle.port_run.proofs.running.Running.take.Goals as goal
 
 pub took-requires : goal.took-requires
 took-requires c =

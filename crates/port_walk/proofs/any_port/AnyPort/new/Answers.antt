@@ -1,8 +1,6 @@
 use Rattle.std.proofs.Common.{◌≡◌, ap, length, refl, subst, sym, arith}
 use Rattle.net_defs.specs.Valid.{IsValidStimulus}
-use Rattle.image_defs.specs.Places.{IsPort}
-use Rattle.image_defs.specs.Ports.{PortView, at_first}
-use Rattle.image_defs.specs.WellFormed.{IsWellFormed}
+use Rattle.image_defs.specs.{Places.IsPort, Ports.PortView, Ports.at_first, WellFormed.IsWellFormed}
 use Rattle.port_walk.proofs.lemmas.KindLemmas.{port_image_there}
 use Rattle.port_walk.proofs.any_port.AnyPort.new.Goals as goal
 

@@ -1,5 +1,4 @@
-use Rattle.std.proofs.Common.{ap, refl, arith}
-use Rattle.std.proofs.lemmas.Bool.{leb-true}
+use Rattle.std.proofs.{Common.ap, Common.refl, Common.arith, lemmas.Bool.leb-true}
 use Rattle.image_defs.specs.Ports.{View}
 use Rattle.port_walk.proofs.MoveLemmas.{may_enter, entered_kept}
 use Rattle.port_walk.proofs.walk.Walk.new.Goals as goal

@@ -1,11 +1,8 @@
 use Rattle.std.proofs.Common.{◌∙◌, length, get_or, ap, subst, sym, arith}
 use Rattle.std.proofs.lemmas.Option.{slice_get_within}
-use Rattle.port_walk.specs.declared.upcoming.Upcoming.TheVariants.{Take, Tell}
-use Rattle.port_walk.specs.Stands.{IsNextOf}
-use Rattle.port_walk.specs.Walks.{Walked}
-use Rattle.port_walk.proofs.KeptLemmas.{next_take, next_tell}
+use Rattle.port_walk.specs.{declared.upcoming.Upcoming.TheVariants.Take, declared.upcoming.Upcoming.TheVariants.Tell, Stands.IsNextOf, Walks.Walked}
 use Rattle.port_walk.proofs.MoveLemmas.{at_here, link_sent, row_sent, sent_there, sent_rising, sent_next}
-use Rattle.port_walk.proofs.WalkLemmas.{no_stop}
+use Rattle.port_walk.proofs.{KeptLemmas.next_take, KeptLemmas.next_tell, WalkLemmas.no_stop}
 use Rattle.port_walk.proofs.walk.Walk.next.Goals as goal
 
 pub readers_at-readers-requires-clause-order : goal.readers_at-readers-requires-clause-order

@@ -1,8 +1,6 @@
 use Rattle.std.proofs.Common.{subst, refl}
-use Rattle.port_walk.specs.Stands.{IsNextReceipt}
-use Rattle.port_walk.specs.Walks.{Walked}
-use Rattle.port_walk.proofs.MoveLemmas.{at_here}
-use Rattle.port_walk.proofs.WalkLemmas.{receiving_here}
+use Rattle.port_walk.specs.{Stands.IsNextReceipt, Walks.Walked}
+use Rattle.port_walk.proofs.{MoveLemmas.at_here, WalkLemmas.receiving_here}
 use Rattle.port_walk.proofs.walk.Walk.next_receipt.Goals as goal
 
 pub returns : goal.returns

@@ -1,8 +1,6 @@
 use Rattle.std.proofs.Common.{subst, refl}
-use Rattle.port_walk.specs.Stands.{IsNextSend}
-use Rattle.port_walk.specs.Walks.{Walked}
-use Rattle.port_walk.proofs.MoveLemmas.{at_here}
-use Rattle.port_walk.proofs.WalkLemmas.{sending_here}
+use Rattle.port_walk.specs.{Stands.IsNextSend, Walks.Walked}
+use Rattle.port_walk.proofs.{MoveLemmas.at_here, WalkLemmas.sending_here}
 use Rattle.port_walk.proofs.walk.Walk.next_send.Goals as goal
 
 pub returns : goal.returns

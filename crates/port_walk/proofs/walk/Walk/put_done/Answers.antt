@@ -1,6 +1,5 @@
 use Rattle.std.proofs.Common.{subst, sym, arith}
-use Rattle.port_walk.specs.Stands.{CanPut}
-use Rattle.port_walk.specs.Walks.{Walked}
+use Rattle.port_walk.specs.{Stands.CanPut, Walks.Walked}
 use Rattle.port_walk.proofs.MoveLemmas.{put_within, put_runs, put_kept, put_made}
 use Rattle.port_walk.proofs.walk.Walk.put_done.Goals as goal
 

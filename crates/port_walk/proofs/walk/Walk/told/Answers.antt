@@ -1,8 +1,7 @@
 use Rattle.std.proofs.Common.{subst, sym, refl, arith}
-use Rattle.port_walk.specs.Stands.{IsEnding}
-use Rattle.port_walk.specs.Walks.{Walked}
-use Rattle.port_walk.proofs.KeptLemmas.{until_low}
+use Rattle.port_walk.specs.{Stands.IsEnding, Walks.Walked}
 use Rattle.port_walk.proofs.MoveLemmas.{at_here, can_end, told_enters, told_kept}
+use Rattle.port_walk.proofs.KeptLemmas.{until_low}
 use Rattle.port_walk.proofs.walk.Walk.told.Goals as goal
 
 pub end_turn-requires-clause-end : goal.end_turn-requires-clause-end

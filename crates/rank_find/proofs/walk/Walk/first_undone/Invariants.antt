@@ -1,6 +1,5 @@
 use Rattle.std.proofs.Common.{◌≡◌, ℕ, ◌<◌, ◌≤◌, get_or}
-use Rattle.rank_find.specs.declared.walk.Mark.TheVariants.{Done}
-use Rattle.rank_find.specs.code.Walk.{mark_at}
+use Rattle.rank_find.specs.{declared.walk.Mark.TheVariants.Done, code.Walk.mark_at}
 use Rattle.rank_find.proofs.walk.Walk.first_undone.Given as goal
 
 abbrev pub invariant-loop-place : goal.invariant-loop-place

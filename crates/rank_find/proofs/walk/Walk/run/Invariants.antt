@@ -1,6 +1,5 @@
 use Rattle.std.proofs.Common.{◌≢◌, ℕ, ◌<◌}
-use Rattle.rank_find.specs.declared.walk.Mark.TheVariants.{Fresh}
-use Rattle.rank_find.specs.code.Walk.{mark_at, IsIdle}
+use Rattle.rank_find.specs.{declared.walk.Mark.TheVariants.Fresh, code.Walk.mark_at, code.Walk.IsIdle}
 use Rattle.rank_find.proofs.walk.Walk.run.Given as goal
 
 abbrev pub invariant-loop-root : goal.invariant-loop-root

@@ -1,6 +1,5 @@
 -- The names are written, and then the end of the line.
-use Rattle.std.proofs.Common.{refl}
-use Rattle.std.proofs.lemmas.Result.{err_from_is_err_and}
+use Rattle.std.proofs.{Common.refl, lemmas.Result.err_from_is_err_and}
 use Rattle.refusals.specs.Lines.{loop_line}
 use Rattle.edge_io.proofs.lemmas.WritingLemmas.{writes_then, writes_stop}
 use Rattle.refusals.proofs.lines.netlist.write_loop_line.Goals as goal

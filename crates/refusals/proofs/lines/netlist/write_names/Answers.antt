@@ -1,9 +1,7 @@
 -- Each name is written after those before it.
 use Rattle.std.proofs.Common.{◌∙◌, sym, ap, arith, ◌++◌, get_or}
+use Rattle.std.proofs.lemmas.{Grind.get_or_default_zero, List.append-nil, Result.err_from_is_err_and}
 use Rattle.std.specs.Prelude.{codes}
-use Rattle.std.proofs.lemmas.Grind.{get_or_default_zero}
-use Rattle.std.proofs.lemmas.List.{append-nil}
-use Rattle.std.proofs.lemmas.Result.{err_from_is_err_and}
 use Rattle.net_defs.specs.Canonical.{name_of}
 use Rattle.edge_io.proofs.lemmas.WritingLemmas.{writes_none, writes_more, writes_ended, writes_all}
 use Rattle.refusals.proofs.lines.netlist.write_names.Goals as goal

@@ -1,6 +1,5 @@
 use Rattle.std.proofs.Common.{take, ◌++◌, Ok}
-use Rattle.std.specs.Prelude.{codes}
-use Rattle.std.specs.List.{flat_map}
+use Rattle.std.specs.{Prelude.codes, List.flat_map}
 use Rattle.net_defs.specs.Canonical.{name_of}
 use Rattle.edge_io.specs.Writing.{Writes}
 use Rattle.refusals.proofs.lines.netlist.write_names.Given as goal

@@ -1,8 +1,8 @@
 use Rattle.std.proofs.Common.{arith}
 use Rattle.slot_plan.specs.code.Boards.{IsShut}
 use Rattle.slot_plan.proofs.ScanLemmas.{bit_set, span_on, word_on}
-use Rattle.slot_plan.proofs.board.Board.free_in_span.Goals as goal
 use Rattle.slot_plan.proofs.board.Board.free_in_span.Goals.{then-passed-k-eq0+in_default, else-passed-k-eq0}
+use Rattle.slot_plan.proofs.board.Board.free_in_span.Goals as goal
 
 pub returns-then-passed : goal.returns-then-passed
 returns-then-passed c =

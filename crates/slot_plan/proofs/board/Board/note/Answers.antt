@@ -1,6 +1,5 @@
-use Rattle.std.proofs.Common.{◌∙◌, ap}
+use Rattle.std.proofs.{Common.◌∙◌, Common.ap, lemmas.Nat.Bits.bit_at_ones}
 use Rattle.std.specs.Int.{bit_at}
-use Rattle.std.proofs.lemmas.Nat.Bits.{bit_at_ones}
 use Rattle.slot_plan.proofs.BoardLemmas.{board_noted}
 use Rattle.slot_plan.proofs.board.Board.note.Goals as goal
 

@@ -3,8 +3,8 @@ use Rattle.std.specs.List.{Contains}
 use Rattle.node_defs.specs.Takes.{Awaits}
 use Rattle.slot_plan.specs.code.Early.{IsFrom}
 use Rattle.slot_plan.proofs.PlaceLemmas.{home_low, reader_low, from_low, slot_low, planned_more}
-use Rattle.slot_plan.proofs.planning.Planning.put.Goals as goal
 use Rattle.slot_plan.proofs.planning.Planning.put.Goals.{After-first_slot-from, After-first_free-slot}
+use Rattle.slot_plan.proofs.planning.Planning.put.Goals as goal
 
 is_from : (c : After-first_slot-from) → IsFrom (Awaits c.args.found.now) c.args.self.now.slots c.first_slot-from.result
 is_from c = subst (λ slots. IsFrom (Awaits c.args.found.now) slots c.first_slot-from.result) c.as_slice.ensures c.first_slot-from.ensures

@@ -1,5 +1,4 @@
-use Rattle.slot_words.proofs.PackedLemmas.{rule_sound}
-use Rattle.slot_words.proofs.lemmas.SoundLemmas.{rule_distinct}
+use Rattle.slot_words.proofs.{PackedLemmas.rule_sound, lemmas.SoundLemmas.rule_distinct}
 use Rattle.slot_words.specs.packed.Words.{packs}
 use Rattle.slot_words.proofs.pack_words.law.rule_is_sound.Goals as goal
 

@@ -1,11 +1,8 @@
 use Rattle.std.proofs.Common.{arith, length, subst, sym, ℕ, ◌<◌, ◌≡◌, rules}
 use Rattle.image_defs.specs.declared.image.Image.{Image}
-use Rattle.slot_words.proofs.HeldLemmas.{own_fields, progress_room}
-use Rattle.slot_words.proofs.AllowLemmas.{ask_allowed}
+use Rattle.slot_words.proofs.{HeldLemmas.own_fields, HeldLemmas.progress_room, AllowLemmas.ask_allowed}
 use Rattle.slot_words.specs.declared.words.Words.TheInside as bar
-use Rattle.slot_words.specs.declared.pass.Pass.TheInside.{Inside}
-use Rattle.slot_words.specs.Held.{pass_of, words_of}
-use Rattle.slot_words.specs.Passes.{IsOf, WordsView}
+use Rattle.slot_words.specs.{declared.pass.Pass.TheInside.Inside, Held.pass_of, Held.words_of, Passes.IsOf, Passes.WordsView}
 use Rattle.slot_words.proofs.words.Words.ask.Goals as goal
 
 pub ask-requires-clause-own : goal.ask-requires-clause-own

@@ -2,12 +2,10 @@ use Rattle.std.proofs.Common.{ap, arith, false, length, refl, subst, sym, â„•, â
 use Rattle.std.proofs.lemmas.Option.{slice_get_within}
 use Rattle.image_defs.specs.declared.image.LinkOut.{LinkOut}
 use Rattle.event_defs.specs.Places.{IsSend, after_put, is_in}
-use Rattle.slot_words.proofs.AllowLemmas.{put_allowed}
 use Rattle.slot_words.proofs.HeldLemmas.{held_stepped, own_fields, pass_stepped, put_word, reseated, word_room}
-use Rattle.slot_words.specs.Held.{pass_of}
-use Rattle.slot_words.specs.Layout.{send_word}
+use Rattle.slot_words.proofs.AllowLemmas.{put_allowed}
 use Rattle.slot_words.specs.Passes.{CanPutIn, HasPut, IsRunning, PassView, one_step}
-use Rattle.slot_words.specs.code.Plays.{after_step}
+use Rattle.slot_words.specs.{Held.pass_of, Layout.send_word, code.Plays.after_step}
 use Rattle.slot_words.proofs.words.Words.put.Given as given
 use Rattle.slot_words.proofs.words.Words.put.Goals as goal
 

@@ -4,9 +4,8 @@ use Rattle.event_defs.proofs.lemmas.PaceLemmas.{source}
 use Rattle.event_defs.specs.Places.{is_in}
 use Rattle.slot_words.proofs.HeldLemmas.{gives, held_found, own_fields, reseated, take_finds, take_word, word_room}
 use Rattle.slot_words.proofs.AllowLemmas.{take_allowed}
-use Rattle.slot_words.specs.Held.{pass_of}
-use Rattle.slot_words.specs.Layout.{send_word}
 use Rattle.slot_words.specs.Passes.{CanTake, HasTaken, IsNumber, IsRunning, PassView}
+use Rattle.slot_words.specs.{Held.pass_of, Layout.send_word}
 use Rattle.slot_words.proofs.words.Words.take.Goals as goal
 
 pub take-number-requires-clause-own : goal.take-number-requires-clause-own

@@ -1,6 +1,5 @@
 use Rattle.std.proofs.Common.{arith, subst, sym}
-use Rattle.slot_words.proofs.HeldLemmas.{own_fields, progress_room}
-use Rattle.slot_words.proofs.AllowLemmas.{tell_allowed}
+use Rattle.slot_words.proofs.{HeldLemmas.own_fields, HeldLemmas.progress_room, AllowLemmas.tell_allowed}
 use Rattle.slot_words.specs.Passes.{CanTell, IsRunning}
 use Rattle.slot_words.proofs.words.Words.tell.Goals as goal
 

@@ -1,9 +1,7 @@
 use Rattle.std.proofs.Common.{◌∙◌, refl, max, ap, arith}
+use Rattle.std.proofs.lemmas.{List.take_all, Option.slice_get_read}
 use Rattle.std.specs.List.{fold}
-use Rattle.std.proofs.lemmas.List.{take_all}
-use Rattle.std.proofs.lemmas.Option.{slice_get_read}
-use Rattle.net_defs.specs.declared.stimulus.Stimulus.{Stimulus}
-use Rattle.net_defs.specs.Time.{cycle_count}
+use Rattle.net_defs.specs.{declared.stimulus.Stimulus.Stimulus, Time.cycle_count}
 use Rattle.stim_text.specs.Lanes.{longest}
 use Rattle.stim_text.proofs.lanes.Lanes.cycles.Goals as goal
 

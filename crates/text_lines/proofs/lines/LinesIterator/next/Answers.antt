@@ -1,6 +1,6 @@
 use Rattle.std.proofs.Common.{◌≡◌, ◌+◌, ◌∷◌, length, sym, ap, ◌∙◌, rules}
-use Rattle.std.specs.List.{enumerate_from}
 use Rattle.std.proofs.lemmas.List.{nil_from_length}
+use Rattle.std.specs.List.{enumerate_from}
 use Rattle.text_lines.specs.Lines.{parts_of}
 use Rattle.text_lines.proofs.lemmas.LineLemmas.{parts_of-nil, parts_of_first}
 use Rattle.text_lines.proofs.lines.LinesIterator.next.Goals as goal

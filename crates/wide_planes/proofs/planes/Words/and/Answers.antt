@@ -1,6 +1,5 @@
-use Rattle.std.proofs.Common.{bit_and}
+use Rattle.std.proofs.{Common.bit_and, lemmas.Nat.Bits.bit_at_and}
 use Rattle.std.specs.Prelude.{min}
-use Rattle.std.proofs.lemmas.Nat.Bits.{bit_at_and}
 use Rattle.wide_planes.specs.Lanes.{bit_of}
 use Rattle.wide_planes.proofs.WordLemmas.{zipped, zipped_long}
 use Rattle.wide_planes.proofs.planes.Words.and.Goals as goal

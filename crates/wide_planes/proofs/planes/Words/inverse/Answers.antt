@@ -1,7 +1,6 @@
 use Rattle.std.proofs.Common.{◌≡◌, ◌∙◌, ℕ, ◌+◌, ◌*◌, ◌-◌, ◌%◌, ◌<◌, ap, arith, refl}
-use Rattle.std.specs.Prelude.{replicate}
-use Rattle.std.specs.Int.RustNames.{bit_xor}
 use Rattle.std.proofs.lemmas.Nat.Bits.{bit_at_xor, bit_at-lt}
+use Rattle.std.specs.{Prelude.replicate, Int.RustNames.bit_xor}
 use Rattle.wide_planes.specs.Lanes.{bit_of}
 use Rattle.wide_planes.proofs.WordLemmas.{zipped, zipped_long, all_same, wide_bit}
 use Rattle.wide_planes.proofs.planes.Words.inverse.Goals as goal

@@ -1,6 +1,5 @@
-use Rattle.std.proofs.Common.{bit_or}
+use Rattle.std.proofs.{Common.bit_or, lemmas.Nat.Bits.bit_at_or}
 use Rattle.std.specs.Prelude.{max}
-use Rattle.std.proofs.lemmas.Nat.Bits.{bit_at_or}
 use Rattle.wide_planes.specs.Lanes.{bit_of}
 use Rattle.wide_planes.proofs.WordLemmas.{zipped, zipped_long}
 use Rattle.wide_planes.proofs.planes.Words.or.Goals as goal

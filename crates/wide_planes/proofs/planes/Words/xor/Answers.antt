@@ -1,6 +1,5 @@
-use Rattle.std.proofs.Common.{◌+◌, ◌%◌}
+use Rattle.std.proofs.{Common.◌+◌, Common.◌%◌, lemmas.Nat.Bits.bit_at_xor}
 use Rattle.std.specs.Int.RustNames.{bit_xor}
-use Rattle.std.proofs.lemmas.Nat.Bits.{bit_at_xor}
 use Rattle.wide_planes.specs.Lanes.{bit_of}
 use Rattle.wide_planes.proofs.WordLemmas.{zipped, zipped_long}
 use Rattle.wide_planes.proofs.planes.Words.xor.Goals as goal

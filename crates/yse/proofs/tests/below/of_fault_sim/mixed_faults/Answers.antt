@@ -1,6 +1,5 @@
 use Rattle.std.proofs.Common.{◌+◌, ◌∙◌, ap, arith}
-use Rattle.std.proofs.lemmas.List.{length_push}
-use Rattle.std.proofs.lemmas.List.Elements.{All-push}
+use Rattle.std.proofs.lemmas.List.{length_push, Elements.All-push}
 use Rattle.fault_sim.specs.Faults.{IsFault}
 use Rattle.yse.proofs.tests.below.of_fault_sim.mixed_faults.Goals as goal
 

@@ -1,7 +1,6 @@
 -- The last of the first passes is that of the next port.
 use Rattle.std.proofs.Common.{List, ap, arith, length, slice_get, subst, sym, ℕ, ◌++◌, ◌+◌, ◌∙◌, ◌∷◌, [], ◌≡◌}
-use Rattle.std.proofs.lemmas.List.{length_push}
-use Rattle.std.proofs.lemmas.Option.{slice_get_within}
+use Rattle.std.proofs.lemmas.{List.length_push, Option.slice_get_within}
 use Rattle.list_laws.proofs.Places.{at_front, seam_at}
 use Rattle.slot_words.specs.plain.Passes.{AreFirstPasses, CrossbarView, IsFirstPass, PassView}
 use Rattle.yse.proofs.tests.below.of_slot_words.all_ports.Goals as goal
