@@ -11,8 +11,8 @@ ghost use Rattle.port_host.specs.Rows.{printed_sources};
 ghost use Rattle.order_run.specs.Core.{Applies, AreDone, IsRoundOf, IsSoundCore, IsStart, SparesReaders, TakesThisTurn, left_of, rows_of};
 ghost use Rattle.order_run.specs.code.Core.{IsReady, IsUpcoming};
 
-use crate::rows;
 use crate::core_ports::{self, CorePort};
+use crate::rows;
 use crate::words::{is_of, lags};
 use event_defs::{Action, CoreStep, Event};
 use image_defs::Image;
@@ -192,7 +192,13 @@ impl<'a> Core<'a> {
         ensures { Applies self.old port (Moved (event.Put slot)) self.new }
     {
         let p = port as usize;
-        core_ports::write(self.core_ports.as_slice(), p, self.banks, &mut self.words, value);
+        core_ports::write(
+            self.core_ports.as_slice(),
+            p,
+            self.banks,
+            &mut self.words,
+            value,
+        );
         core_ports::put(self.core_ports.as_mut_slice(), p);
     }
 
@@ -238,7 +244,11 @@ impl<'a> Core<'a> {
         ensures cells { (j : ℕ) → j < length result.now
             → value_at result.now j ≡ shown self.now.image self.now.stimulus cycle j }
     {
-        rows::cells(self.core_ports.as_slice(), self.image.ports.len() - 1, cycle)
+        rows::cells(
+            self.core_ports.as_slice(),
+            self.image.ports.len() - 1,
+            cycle,
+        )
     }
 
     /// Whether every port has finished its last turn.

@@ -11,9 +11,9 @@
 //! ```
 #![tactic(auto)]
 
+mod core_ports;
 mod core_run;
 mod rows;
-mod core_ports;
 mod steps;
 mod words;
 

@@ -3,9 +3,9 @@
 ghost use Rattle.std.specs.Prelude.{IfOk};
 ghost use Rattle.yse_commands.specs.commands.Compile.{IsImageTextOf};
 
+use call_steps::Planned;
 use image_defs::ImageFile;
 use image_file::write_image;
-use call_steps::Planned;
 use seen_list::{Memory, Text};
 use std::alloc::Global;
 use yse_compile::matching::designs_are_placed;

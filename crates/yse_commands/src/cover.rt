@@ -9,10 +9,10 @@ ghost use Rattle.yse_commands.specs.commands.Cover.{ExpectedCover, IsCoverage, W
 ghost use Rattle.call_steps.specs.Files.{AfterStimulus};
 
 use crate::output::Output;
+use call_steps::{Timed, WithRanks, design_from, ranked, stimulus_in};
 use cmd_words::RunWords;
 use cover_sim::{cover as marks_of, cover_lines};
 use edge_io::Files;
-use call_steps::{Timed, WithRanks, design_from, ranked, stimulus_in};
 use net_defs::{Stimulus, Timing};
 use refusals::Refusal;
 use seen_list::{List, Memory, Text};

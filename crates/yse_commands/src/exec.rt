@@ -8,10 +8,10 @@ ghost use Rattle.yse_commands.specs.{Outputs.CanEnd, Refusals.MayTake, Telling.C
 
 use crate::output::Output;
 use crate::steps::by_workers;
+use call_steps::{runnable_in, stimulus_in};
 use cmd_words::RunWords;
 use crew_run::Gate;
 use edge_io::{Files, Sink};
-use call_steps::{runnable_in, stimulus_in};
 use refusals::Refusal;
 use seen_list::Memory;
 use std::alloc::Global;

@@ -10,10 +10,10 @@ ghost use Rattle.yse_commands.specs.{Outputs.CanWrite, Refusals.FilesFollow, Ref
 ghost use Rattle.call_steps.specs.{Checks.After, Checks.HasFewSignals, Files.AfterFaultList};
 
 use crate::output::Output;
+use call_steps::{Timed, WithRanks, design_from, faults_from, few_signals, ranked, stimulus_in};
 use cmd_words::RunWords;
 use edge_io::Files;
 use fault_sim::{all_faults, fault_lines, fault_list};
-use call_steps::{Timed, WithRanks, design_from, faults_from, few_signals, ranked, stimulus_in};
 use net_defs::{Fault, Netlist, Stimulus, Timing};
 use refusals::Refusal;
 use seen_list::{List, Memory, Text};

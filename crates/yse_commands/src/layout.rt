@@ -7,9 +7,9 @@ ghost use Rattle.yse_commands.specs.{Outputs.CanWrite, Refusals.FilesFollow, Ref
 use crate::compile::image_text_of;
 use crate::output::Output;
 use crate::plan::report_of;
+use call_steps::{Planned, planned_on_machine};
 use cmd_words::RunWords;
 use edge_io::Files;
-use call_steps::{Planned, planned_on_machine};
 use refusals::Refusal;
 use seen_list::{Memory, Text};
 use std::alloc::Global;

@@ -7,9 +7,9 @@ ghost use Rattle.call_steps.specs.Passing.{AfterOrderFile};
 
 use crate::output::Output;
 use crate::steps::{by_order, by_rounds};
+use call_steps::{Ready, few_ready_cells, order_for, ready_on_machine};
 use cmd_words::RunWords;
 use edge_io::Files;
-use call_steps::{Ready, few_ready_cells, order_for, ready_on_machine};
 use refusals::Refusal;
 use seen_list::Memory;
 use std::alloc::Global;

@@ -11,10 +11,10 @@ ghost use Rattle.yse_commands.specs.{Outputs.CanEnd, Outputs.lanes_bytes, Refusa
 ghost use Rattle.yse_commands.specs.{Visited.AllCanTell, commands.Pack.AreLaneTraces, commands.Pack.ExpectedPack};
 
 use crate::output::{Output, WrittenLanes};
+use call_steps::{OnMachine, Runnable, design_on_machine, few_bits, few_lane_cells, lanes_for};
 use cmd_words::RunWords;
 use crew_run::Gate;
 use edge_io::{Files, Sink};
-use call_steps::{OnMachine, Runnable, design_on_machine, few_bits, few_lane_cells, lanes_for};
 use pack_machine::run_pack;
 use refusals::Refusal;
 use seen_list::Memory;

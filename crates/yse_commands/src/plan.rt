@@ -3,8 +3,8 @@
 ghost use Rattle.std.specs.Prelude.{◌≡◌, ◌++◌, IfOk, OnOk};
 ghost use Rattle.yse_commands.specs.commands.Plan.{IsReportOf, crossings_line, homes_word, told_of_homes};
 
-use itoa::Buffer;
 use call_steps::Planned;
+use itoa::Buffer;
 use net_defs::HomeChoice;
 use plan_defs::law::items_are_well_formed;
 use plan_text::report;

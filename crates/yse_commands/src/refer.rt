@@ -7,9 +7,9 @@ ghost use Rattle.yse_commands.specs.{Outputs.CanWrite, Outputs.CanPrint, code.Pr
 ghost use Rattle.yse_commands.specs.commands.Run.{ExpectedRefer, KeepsTrace};
 
 use crate::output::{Output, Trace};
+use call_steps::{Design, Timed, design_from, few_cells, ordered, stimulus_in};
 use cmd_words::RunWords;
 use edge_io::Files;
-use call_steps::{Design, Timed, design_from, few_cells, ordered, stimulus_in};
 use net_defs::{Stimulus, Timing};
 use ref_sim::refer_in_order;
 use refusals::Refusal;

@@ -8,10 +8,10 @@ ghost use Rattle.yse_commands.specs.{Outputs.CanEnd, Refusals.MayTake, Telling.C
 
 use crate::output::Output;
 use crate::steps::on_workers;
+use call_steps::ready_on_machine;
 use cmd_words::RunWords;
 use crew_run::Gate;
 use edge_io::{Files, Sink};
-use call_steps::ready_on_machine;
 use refusals::Refusal;
 use seen_list::Memory;
 use std::alloc::Global;

@@ -4,8 +4,8 @@ ghost use Rattle.std.specs.Prelude.{◌≡◌, IfOk, None};
 ghost use Rattle.yse_commands.specs.{Outputs.CanWrite, Refusals.FilesFollow, Refusals.outcome_of, commands.Show.ExpectedShow};
 
 use crate::output::Output;
-use edge_io::Files;
 use call_steps::netlist_in;
+use edge_io::Files;
 use net_defs::show as canonical_text;
 use refusals::Refusal;
 use seen_list::Memory;

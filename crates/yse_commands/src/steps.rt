@@ -13,11 +13,11 @@ ghost use Rattle.yse_commands.specs.Outputs.{trace_bytes, run_bytes, CanPrint, C
 ghost use Rattle.yse_commands.specs.{Orders.EndsInOrder, Refusals.ended_with, Told.TellsTurns, Told.run_turns, Visited.AllCanTell};
 
 use crate::output::{Ending, Output, Trace, Written};
+use call_steps::{OnMachine, Ready, Runnable};
 use cmd_words::RunWords;
 use crew_run::Gate;
 use edge_io::Sink;
 use machine_run::{Division, run_blocks};
-use call_steps::{OnMachine, Ready, Runnable};
 use net_defs::Stimulus;
 use order_run::{rows_by_order, rows_by_rounds};
 use seen_list::Memory;
