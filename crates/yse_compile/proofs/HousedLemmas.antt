@@ -1,7 +1,7 @@
 -- The items of a machine have homes, or a memory finds no port, or the nodes are too many.
 use Rattle.std.proofs.Common.{◌≡◌, ◌∙◌, ◌⊎◌, inl, inr, ℕ, zero, suc, ◌+◌, ◌-◌, ◌%◌, ◌<◌, ◌≤◌, List, [], ◌∷◌, ◌++◌, length, get_or, set, replicate, refl, sym, ap, subst, arith}
 use Rattle.std.proofs.{lemmas.Bool.cases_lt, lemmas.Bool.cases_eq, lemmas.Nat.mod_below, Math.Numerals.add-one, Math.Seq.get_or-append_seam}
-use Rattle.std.specs.{Prelude.Some, Prelude.slice_get, List.sum}
+use Rattle.std.specs.{Prelude.Some, Prelude.max, Prelude.slice_get, List.sum}
 use Rattle.list_laws.proofs.Members.{member_at}
 use Rattle.machine_text.specs.declared.machine.{Limited.TheVariants.Nodes, Limited.TheVariants.Bits, Machine.Machine}
 use Rattle.machine_text.specs.Machines.{IsValid}
@@ -20,15 +20,9 @@ use Rattle.yse_compile.proofs.KnownLemmas.{least_or_all}
 -- the most that is left on the first n array ports
 most_left : (left : List ℕ) (n : ℕ) → (bits : ℕ) × IsMostLeft left n bits
 most_left left zero = (0, left_none left)
-most_left left (suc n) = next (most_left left n).0 (most_left left n).1 where
-  next : (bits : ℕ) → IsMostLeft left n bits → (new : ℕ) × IsMostLeft left (suc n) new
-  next bits before = elim (cases_lt bits (get_or left n 0)) [
-    | inl low ↦ (
-      get_or left n 0,
-      subst (λ k. IsMostLeft left k (get_or left n 0)) (add-one n) (left_more left n bits (get_or left n 0) before (omega (arith, low), omega arith) (inr refl)),
-    )
-    | inr up ↦ (bits, subst (λ k. IsMostLeft left k bits) (add-one n) (left_more left n bits bits before (omega arith, up) (inl refl)))
-  ]
+most_left left (suc n) =
+    let before = most_left left n in
+    (max before.0 (get_or left n 0), subst (λ k. IsMostLeft left k (max before.0 (get_or left n 0))) (add-one n) (left_more left n before.0 before.1))
 
 -- a memory has a bit
 bit_there : (nodes : NodeNet) (m : ℕ) → IsWellFormed nodes → m < length nodes.blocks → 1 ≤ bits_of nodes m
