@@ -393,7 +393,7 @@ module _ (words : List ℕ) (views : List PackView) (id p : ℕ) (old : PackView
             word = comes.has.word;
             stands = λ other q v at port. elim (at_set views id other new v at) [
               | inl t ↦
-                  let same : Some p ≡ Some q = sym (same_port_image (after_kept.owned.seen p mine.inside comes.has.claimed)) ∙ (ap (λ (v : PackView). v.port) t.1 ∙ port) in
+                  let same : Some p ≡ Some q = sym (same_seat (after_kept.owned.seen p mine.inside comes.has.claimed)) ∙ (ap (λ (v : PackView). v.port) t.1 ∙ port) in
                   let same_q : p ≡ q = cc in
                   subst (λ q. comes.after.place q ≡ v.place) same_q (comes.stands ∙ ap (λ (v : PackView). v.place) t.1)
               | inr t ↦ comes.others q (other_port other q v t.1 port t.0) ∙ is.stands other q v t.1 port

@@ -189,7 +189,7 @@ module _ (words : List ℕ) (views : List PlainView) (id p : ℕ) (old : PlainVi
           word = has.word;
           stands = λ other q v here port. elim (at_set views id other new v here) [
             | inl t ↦
-                let same : Some p ≡ Some q = sym (same_port_image (now.owned.seen p mine.inside has.claimed)) ∙ (ap (λ (v : PlainView). v.port) t.1 ∙ port) in
+                let same : Some p ≡ Some q = sym (same_seat (now.owned.seen p mine.inside has.claimed)) ∙ (ap (λ (v : PlainView). v.port) t.1 ∙ port) in
                 let same_q : p ≡ q = cc in
                 subst (λ q. core.after.place q ≡ v.place) same_q (core.stands ∙ ap (λ (v : PlainView). v.place) t.1)
             | inr t ↦ others_stand _ told_none mine.claimed port_image at word number table new core.after event core.step.step.1 q (other_port other q v t.1 port t.0) ∙ is.stands other q v t.1 port
