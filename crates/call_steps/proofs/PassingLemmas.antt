@@ -19,6 +19,11 @@ pub no_value : {X : Type 0} (P : X → Type 0) (why : Refusal) (result : Result 
 no_value P why (Ok x) says = absurd says
 no_value P why (Err other) says = tt
 
+-- a refusal that says what the check says
+refused_as : {X : Type 0} (Checked : Result X Outcome → Type 0) (why : Refusal) (result : Result X Refusal) → IsErrAnd result (λ no. no ≡ why) → Refuses Checked (refused_of why) → Satisfies result Checked
+refused_as Checked why (Ok x) says refused = absurd says
+refused_as Checked why (Err other) says refused = subst (λ no. Refuses Checked (refused_of no)) (sym says) refused
+
 module _ (names : Option (List ℕ → Bool)) (bytes : Option (List ℕ → List ℕ)) where
   -- a call that answers the refusal of its step
   pub stopped : {X : Type 0} (Step : Continuation X → List Reading → Outcome → Type 0) (old new : FileCounts) (why : Refusal) (result : Result X Refusal) → IsErrAnd result (λ no. no ≡ why) → Passes names bytes old new Step (Err why) → Passes names bytes old new Step result
@@ -66,6 +71,9 @@ module _ (names : Option (List ℕ → Bool)) (bytes : Option (List ℕ → List
         by : (gave : Option (List ℕ)) → AreReadings names bytes old new (record { file = file; bytes = gave } ∷ []) → AnswersText file gave (Ok text) → Passes names bytes old new checked result
         by None reading answer = absurd answer
         by (Some read) reading answer = record { readings = record { file = file; bytes = Some read } ∷ []; are = reading; steps = steps read answer result is }
+
+    pub file_refused : (text : List ℕ) (why : Refusal) (result : Result X Refusal) → IsErrAnd result (λ no. no ≡ why) → GivesText names bytes old new file (Ok text) → Refuses (Check text) (refused_of why) → Passes names bytes old new checked result
+    file_refused text why result says gives refused = file_passes text result gives (refused_as (Check text) why result says refused)
 
     pub file_stops : (why : Refusal) (result : Result X Refusal) → IsErrAnd result (λ no. no ≡ why) → GivesText names bytes old new file (Err why) → Passes names bytes old new checked result
     file_stops why result says gives = stopped checked old new why result says (by gives.gave gives.reading gives.text)

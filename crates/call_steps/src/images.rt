@@ -13,7 +13,7 @@ use net_defs::{Netlist, Timing};
 use node_defs::NodeNet;
 use node_map::map_nodes;
 use rank_find::{RankNo, rank};
-use refusals::{Refusal, of_match};
+use refusals::Refusal;
 use seen_list::Memory;
 use std::alloc::Global;
 use yse_compile::inputs::same_inputs;
@@ -74,7 +74,7 @@ pub fn accepted<'a>(
         Err(no) => {
             drop(image);
             drop(net);
-            Err(of_match(no))
+            Err(Refusal::from(no))
         }
     }
 }

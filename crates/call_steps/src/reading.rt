@@ -20,9 +20,7 @@ use image_file::read_image;
 use limits::MAX_TEXT_BYTES;
 use machine_text::{Machine, read_machine};
 use net_defs::{Fault, Netlist, Stimulus, Timing};
-use refusals::{
-    Refusal, of_faults, of_image, of_lanes, of_list, of_machine, of_netlist, of_order, of_stimulus,
-};
+use refusals::Refusal;
 use seen_list::{List, Text};
 use std::alloc::Global;
 use stim_text::{Lanes, Order, read_lanes, read_order, read_stim};
@@ -68,10 +66,8 @@ pub fn machine_from<'a, F: Files>(
         None => Ok(Machine::default_size(alloc)),
         Some(file) => {
             let text = read_text(alloc, files, file.as_bytes())?;
-            match read_machine(alloc, text.as_slice()) {
-                Ok(machine) => Ok(machine),
-                Err(no) => Err(of_machine(no)),
-            }
+            let machine = read_machine(alloc, text.as_slice())?;
+            Ok(machine)
         }
     }
 }
@@ -107,13 +103,9 @@ pub fn netlist_in<'a, F: Files>(
 {
     let text = read_text(alloc, files, file)?;
     let bytes = text.as_slice();
-    match read_bench(alloc, bytes) {
-        Ok(net) => {
-            reads_as_valid(bytes, &net);
-            Ok(net)
-        }
-        Err(no) => Err(of_netlist(no)),
-    }
+    let net = read_bench(alloc, bytes)?;
+    reads_as_valid(bytes, &net);
+    Ok(net)
 }
 
 /// The timing of the words, with the gates listed that the file of a list names.
@@ -135,10 +127,8 @@ fn timing_from<'a, F: Files>(
         None => Ok(words.timing.listing(List::new(alloc))),
         Some(file) => {
             let text = read_text(alloc, files, file.as_bytes())?;
-            match read_last(alloc, text.as_slice(), net) {
-                Ok(listed) => Ok(words.timing.listing(listed)),
-                Err(no) => Err(of_list(no)),
-            }
+            let listed = read_last(alloc, text.as_slice(), net)?;
+            Ok(words.timing.listing(listed))
         }
     }
 }
@@ -160,10 +150,8 @@ pub fn faults_from<'a, F: Files>(
         None => Ok(None),
         Some(file) => {
             let text = read_text(alloc, files, file.as_bytes())?;
-            match read_faults(alloc, text.as_slice(), net) {
-                Ok(faults) => Ok(Some(faults)),
-                Err(no) => Err(of_faults(no)),
-            }
+            let faults = read_faults(alloc, text.as_slice(), net)?;
+            Ok(Some(faults))
         }
     }
 }
@@ -183,10 +171,8 @@ pub fn stimulus_in<'a, F: Files>(
     ensures columns { IfOk result (λ stimulus. stimulus.columns ≡ input_count net.now) }
 {
     let text = read_text(alloc, files, file)?;
-    match read_stim(alloc, text.as_slice(), net.inputs()) {
-        Ok(stimulus) => Ok(stimulus),
-        Err(no) => Err(of_stimulus(no)),
-    }
+    let stimulus = read_stim(alloc, text.as_slice(), net.inputs())?;
+    Ok(stimulus)
 }
 
 /// The lanes of this file, for the inputs of a netlist.
@@ -203,10 +189,8 @@ pub fn lanes_in<'a, F: Files>(
     ensures lanes { IfOk result (AreLanes (input_count net.now)) }
 {
     let text = read_text(alloc, files, file)?;
-    match read_lanes(alloc, text.as_slice(), net.inputs()) {
-        Ok(lanes) => Ok(lanes),
-        Err(no) => Err(of_lanes(no)),
-    }
+    let lanes = read_lanes(alloc, text.as_slice(), net.inputs())?;
+    Ok(lanes)
 }
 
 /// The order of this file, for the ports of a machine.
@@ -223,10 +207,8 @@ pub fn order_in<'a, F: Files>(
     ensures valid { IfOk result (IsValidOrder (ports_of machine.now)) }
 {
     let text = read_text(alloc, files, file)?;
-    match read_order(alloc, text.as_slice(), machine.logic + machine.array + 1) {
-        Ok(order) => Ok(order),
-        Err(no) => Err(of_order(no)),
-    }
+    let order = read_order(alloc, text.as_slice(), machine.logic + machine.array + 1)?;
+    Ok(order)
 }
 
 /// The image of this file, with its claims.
@@ -241,8 +223,6 @@ pub fn image_in<'a, F: Files>(
     ensures claims { IfOk result HasClaims }
 {
     let text = read_text(alloc, files, file)?;
-    match read_image(alloc, text.as_slice()) {
-        Ok(image) => Ok(image),
-        Err(no) => Err(of_image(no)),
-    }
+    let image = read_image(alloc, text.as_slice())?;
+    Ok(image)
 }

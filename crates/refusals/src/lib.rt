@@ -2,7 +2,7 @@
 //! taking memory.
 //!
 //! ```
-//! let status = refuse(&mut err, of_machine(MachNo::Range { line: 2 })); // Status::Machine, whose number is 6
+//! let status = refuse(&mut err, Refusal::from(MachNo::Range { line: 2 })); // Status::Machine, whose number is 6
 //! // `err` took "machine: line 2: out of range\n"
 //! ```
 #![tactic(auto)]
@@ -16,8 +16,5 @@ mod status;
 pub use diagnostics::{refuse, tell_write_fault};
 pub use lines::order::write_unfinished_line;
 pub use piece::write_piece;
-pub use refusal::{
-    Refusal, of_faults, of_image, of_lanes, of_list, of_machine, of_match, of_netlist, of_order,
-    of_stimulus,
-};
+pub use refusal::Refusal;
 pub use status::Status;

@@ -1,14 +1,11 @@
 //! Why a call ends before its output. A fault of writing is no refusal.
 
-ghost use Rattle.std.specs.Prelude.{◌≡◌};
-ghost use Rattle.refusals.specs.Refusals.{of_faults, of_image, of_lanes, of_list, of_machine, of_match, of_netlist, of_order, of_stimulus};
-
 use bench_read::{BenchNo, FaultNo, LastNo};
 use image_check::CheckNo;
 use image_file::ImageNo;
 use machine_text::MachNo;
 use net_defs::Netlist;
-use seen_list::List;
+use seen_list::{List, Memory};
 use stim_text::{LaneNo, OrderNo, StimNo};
 use yse_compile::CompNo;
 
@@ -53,92 +50,139 @@ pub enum Refusal<'a> {
     Memory,
 }
 
-/// The refusal of a machine text.
-pub fn of_machine<'a>(no: MachNo) -> Refusal<'a>
-    ensures { result ≡ of_machine no }
-{
-    match no {
-        MachNo::Memory => Refusal::Memory,
-        other => Refusal::Machine(other),
+impl<'a> From<Memory> for Refusal<'a> {
+    ghost use Rattle.std.specs.Prelude.{◌≡◌};
+    ghost use Rattle.refusals.specs.declared.refusal.Refusal.TheVariants.{Memory as NoMemory};
+
+    ghost from_gives = { λ _ e. e ≡ NoMemory };
+
+    fn from(_refused: Memory) -> Refusal<'a> {
+        Refusal::Memory
     }
 }
 
-/// The refusal of a netlist text.
-pub fn of_netlist<'a>(no: BenchNo) -> Refusal<'a>
-    ensures { result ≡ of_netlist no }
-{
-    match no {
-        BenchNo::Memory => Refusal::Memory,
-        other => Refusal::Netlist(other),
+impl<'a> From<MachNo> for Refusal<'a> {
+    ghost use Rattle.std.specs.Prelude.{◌≡◌};
+    ghost use Rattle.refusals.specs.Refusals.{of_machine};
+
+    ghost from_gives = { λ no e. e ≡ of_machine no };
+
+    fn from(no: MachNo) -> Refusal<'a> {
+        match no {
+            MachNo::Memory => Refusal::Memory,
+            other => Refusal::Machine(other),
+        }
     }
 }
 
-/// The refusal of a stimulus text.
-pub fn of_stimulus<'a>(no: StimNo) -> Refusal<'a>
-    ensures { result ≡ of_stimulus no }
-{
-    match no {
-        StimNo::Memory => Refusal::Memory,
-        other => Refusal::Stimulus(other),
+impl<'a> From<BenchNo> for Refusal<'a> {
+    ghost use Rattle.std.specs.Prelude.{◌≡◌};
+    ghost use Rattle.refusals.specs.Refusals.{of_netlist};
+
+    ghost from_gives = { λ no e. e ≡ of_netlist no };
+
+    fn from(no: BenchNo) -> Refusal<'a> {
+        match no {
+            BenchNo::Memory => Refusal::Memory,
+            other => Refusal::Netlist(other),
+        }
     }
 }
 
-/// The refusal of a text of lanes.
-pub fn of_lanes<'a>(no: LaneNo) -> Refusal<'a>
-    ensures { result ≡ of_lanes no }
-{
-    match no {
-        LaneNo::Memory => Refusal::Memory,
-        other => Refusal::Lanes(other),
+impl<'a> From<StimNo> for Refusal<'a> {
+    ghost use Rattle.std.specs.Prelude.{◌≡◌};
+    ghost use Rattle.refusals.specs.Refusals.{of_stimulus};
+
+    ghost from_gives = { λ no e. e ≡ of_stimulus no };
+
+    fn from(no: StimNo) -> Refusal<'a> {
+        match no {
+            StimNo::Memory => Refusal::Memory,
+            other => Refusal::Stimulus(other),
+        }
     }
 }
 
-/// The refusal of an order text.
-pub fn of_order<'a>(no: OrderNo) -> Refusal<'a>
-    ensures { result ≡ of_order no }
-{
-    match no {
-        OrderNo::Memory => Refusal::Memory,
-        other => Refusal::OrderText(other),
+impl<'a> From<LaneNo> for Refusal<'a> {
+    ghost use Rattle.std.specs.Prelude.{◌≡◌};
+    ghost use Rattle.refusals.specs.Refusals.{of_lanes};
+
+    ghost from_gives = { λ no e. e ≡ of_lanes no };
+
+    fn from(no: LaneNo) -> Refusal<'a> {
+        match no {
+            LaneNo::Memory => Refusal::Memory,
+            other => Refusal::Lanes(other),
+        }
     }
 }
 
-/// The refusal of the text of a list of gates.
-pub fn of_list<'a>(no: LastNo) -> Refusal<'a>
-    ensures { result ≡ of_list no }
-{
-    match no {
-        LastNo::Memory => Refusal::Memory,
-        other => Refusal::LastList(other),
+impl<'a> From<OrderNo> for Refusal<'a> {
+    ghost use Rattle.std.specs.Prelude.{◌≡◌};
+    ghost use Rattle.refusals.specs.Refusals.{of_order};
+
+    ghost from_gives = { λ no e. e ≡ of_order no };
+
+    fn from(no: OrderNo) -> Refusal<'a> {
+        match no {
+            OrderNo::Memory => Refusal::Memory,
+            other => Refusal::OrderText(other),
+        }
     }
 }
 
-/// The refusal of the text of a list of stuck faults.
-pub fn of_faults<'a>(no: FaultNo) -> Refusal<'a>
-    ensures { result ≡ of_faults no }
-{
-    match no {
-        FaultNo::Memory => Refusal::Memory,
-        other => Refusal::FaultList(other),
+impl<'a> From<LastNo> for Refusal<'a> {
+    ghost use Rattle.std.specs.Prelude.{◌≡◌};
+    ghost use Rattle.refusals.specs.Refusals.{of_list};
+
+    ghost from_gives = { λ no e. e ≡ of_list no };
+
+    fn from(no: LastNo) -> Refusal<'a> {
+        match no {
+            LastNo::Memory => Refusal::Memory,
+            other => Refusal::LastList(other),
+        }
     }
 }
 
-/// The refusal of an image text.
-pub fn of_image<'a>(no: ImageNo) -> Refusal<'a>
-    ensures { result ≡ of_image no }
-{
-    match no {
-        ImageNo::Memory => Refusal::Memory,
-        other => Refusal::ImageText(other),
+impl<'a> From<FaultNo> for Refusal<'a> {
+    ghost use Rattle.std.specs.Prelude.{◌≡◌};
+    ghost use Rattle.refusals.specs.Refusals.{of_faults};
+
+    ghost from_gives = { λ no e. e ≡ of_faults no };
+
+    fn from(no: FaultNo) -> Refusal<'a> {
+        match no {
+            FaultNo::Memory => Refusal::Memory,
+            other => Refusal::FaultList(other),
+        }
     }
 }
 
-/// The refusal of an image that does not match the netlist.
-pub fn of_match<'a>(no: CheckNo) -> Refusal<'a>
-    ensures { result ≡ of_match no }
-{
-    match no {
-        CheckNo::Memory => Refusal::Memory,
-        other => Refusal::ImageMatch(other),
+impl<'a> From<ImageNo> for Refusal<'a> {
+    ghost use Rattle.std.specs.Prelude.{◌≡◌};
+    ghost use Rattle.refusals.specs.Refusals.{of_image};
+
+    ghost from_gives = { λ no e. e ≡ of_image no };
+
+    fn from(no: ImageNo) -> Refusal<'a> {
+        match no {
+            ImageNo::Memory => Refusal::Memory,
+            other => Refusal::ImageText(other),
+        }
+    }
+}
+
+impl<'a> From<CheckNo> for Refusal<'a> {
+    ghost use Rattle.std.specs.Prelude.{◌≡◌};
+    ghost use Rattle.refusals.specs.Refusals.{of_match};
+
+    ghost from_gives = { λ no e. e ≡ of_match no };
+
+    fn from(no: CheckNo) -> Refusal<'a> {
+        match no {
+            CheckNo::Memory => Refusal::Memory,
+            other => Refusal::ImageMatch(other),
+        }
     }
 }

@@ -53,10 +53,8 @@ fn coverage_of<'a, F: Files>(
     ensures writable { IfOk result CanWrite }
 {
     let stimulus = stimulus_in(alloc, files, words.stimulus.as_bytes(), &design.net)?;
-    match lines_of(alloc, timing, design, &stimulus) {
-        Ok(lines) => Ok(Output::Lines(lines)),
-        Err(Memory) => Err(Refusal::Memory),
-    }
+    let lines = lines_of(alloc, timing, design, &stimulus)?;
+    Ok(Output::Lines(lines))
 }
 
 /// The lines of the marks.

@@ -84,10 +84,8 @@ fn listed_of<'a, R: Threads + Sync, F: Files>(
     ensures writable { IfOk result CanWrite }
 {
     let stimulus = stimulus_in(alloc, files, words.stimulus.as_bytes(), &design.net)?;
-    match lines_of(rt, alloc, words, timing, design, listed, &stimulus) {
-        Ok(lines) => Ok(Output::Lines(lines)),
-        Err(Memory) => Err(Refusal::Memory),
-    }
+    let lines = lines_of(rt, alloc, words, timing, design, listed, &stimulus)?;
+    Ok(Output::Lines(lines))
 }
 
 /// The lines of the verdicts.

@@ -7,7 +7,6 @@ use crate::output::Output;
 use cmd_words::Topic;
 use help_text::help_text;
 use refusals::Refusal;
-use seen_list::Memory;
 use std::alloc::Global;
 
 /// The text of a command, or of all.
@@ -15,8 +14,6 @@ pub fn help<'a>(alloc: Global, topic: &Option<Topic>) -> Result<Output, Refusal<
     ensures expected { ExpectedHelp topic.now [] (outcome_of None result) }
     ensures writable { IfOk result CanWrite }
 {
-    match help_text(alloc, topic) {
-        Ok(text) => Ok(Output::Text(text)),
-        Err(Memory) => Err(Refusal::Memory),
-    }
+    let text = help_text(alloc, topic)?;
+    Ok(Output::Text(text))
 }

@@ -37,10 +37,8 @@ pub fn lay_out<'a, F: Files>(
     ensures writable { IfOk result CanWrite }
 {
     let planned = planned_on_machine(alloc, files, words)?;
-    match sheet_of(alloc, planned, sheet) {
-        Ok(text) => Ok(Output::Text(text)),
-        Err(Memory) => Err(Refusal::Memory),
-    }
+    let text = sheet_of(alloc, planned, sheet)?;
+    Ok(Output::Text(text))
 }
 
 /// What is asked of a design.

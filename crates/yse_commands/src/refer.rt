@@ -50,10 +50,8 @@ fn kept<'a>(
     ensures writable { IfOk result CanWrite }
 {
     few_cells(&design.net, stimulus)?;
-    match printed(alloc, timing, design, stimulus) {
-        Ok(trace) => Ok(Output::Trace(trace)),
-        Err(Memory) => Err(Refusal::Memory),
-    }
+    let trace = printed(alloc, timing, design, stimulus)?;
+    Ok(Output::Trace(trace))
 }
 
 /// The printed values of the reference simulation, with room for a line of the trace.

@@ -8,7 +8,6 @@ use call_steps::netlist_in;
 use edge_io::Files;
 use net_defs::show as canonical_text;
 use refusals::Refusal;
-use seen_list::Memory;
 use std::alloc::Global;
 
 /// The canonical text of the netlist of a file.
@@ -23,8 +22,6 @@ pub fn show<'a, F: Files>(
     ensures writable { IfOk result CanWrite }
 {
     let net = netlist_in(alloc, files, file)?;
-    match canonical_text(alloc, &net) {
-        Ok(text) => Ok(Output::Text(text)),
-        Err(Memory) => Err(Refusal::Memory),
-    }
+    let text = canonical_text(alloc, &net)?;
+    Ok(Output::Text(text))
 }

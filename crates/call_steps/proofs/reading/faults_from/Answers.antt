@@ -2,7 +2,7 @@
 use Rattle.std.proofs.Common.{refl, List, ℕ, Option, Some, None, Result, Ok, Err}
 use Rattle.net_defs.specs.declared.{faults.Fault.Fault, netlist.Netlist.Netlist}
 use Rattle.call_steps.specs.{Checks.IsFaultListOf, Outcome.Outcome, Passing.Continuation, Readings.Reading, Files.AfterFaultList}
-use Rattle.call_steps.proofs.PassingLemmas.{both_pass, file_passes, file_stops, first_stops, no_value, value_passes}
+use Rattle.call_steps.proofs.PassingLemmas.{both_pass, file_passes, file_refused, file_stops, first_stops, no_value, value_passes}
 use Rattle.call_steps.proofs.{RefusedLemmas.faults_refused, lemmas.WeakerLemmas.checked_so}
 use Rattle.call_steps.proofs.reading.faults_from.Goals as goal
 
@@ -29,30 +29,31 @@ returns-in_err-text-in-Some g c =
       faults = no_value _ _ _ c.from_residual.ensures.1;
     }
 
-pub returns-in-Ok : goal.returns-in-Ok
+pub returns-in_err-faults-in-Some : goal.returns-in_err-faults-in-Some
 unfolding AfterFaultList
-returns-in-Ok g c =
-    let faults = c.in-Ok.faults in
+returns-in_err-faults-in-Some g c =
+    let says = c.from_residual-in_err-faults-in-Some.ensures.1 in
     let text = rw c.as_bytes.ensures at c.in_ok-text-in-Some.ensures.text in
-    let answers = rw c.as_slice.ensures at c.in-Ok.ensures.answers in
+    let answers = rw c.as_slice.ensures at c.in_err-faults-in-Some.ensures.answers in
+    record {
+      same_names = c.read_text.ensures.same_names;
+      same_bytes = c.read_text.ensures.same_bytes;
+      step = rw c.in-Some.is (first_stops _ _ _ (checked_so _ (is_list c.args.net.now)) listed_then _ _ _ _ says
+          (file_refused _ _ (is_list c.args.net.now) _ _ _ c.in_ok-text-in-Some.text _ _ refl text (faults_refused _ _ _ answers)));
+      faults = no_value _ _ _ says;
+    }
+
+pub returns-in_ok-faults-in-Some : goal.returns-in_ok-faults-in-Some
+unfolding AfterFaultList
+returns-in_ok-faults-in-Some g c =
+    let faults = c.in_ok-faults-in-Some.faults in
+    let text = rw c.as_bytes.ensures at c.in_ok-text-in-Some.ensures.text in
+    let answers = rw c.as_slice.ensures at c.in_ok-faults-in-Some.ensures.answers in
     record {
       same_names = c.read_text.ensures.same_names;
       same_bytes = c.read_text.ensures.same_bytes;
       step = rw c.in-Some.is (both_pass _ _ _ (checked_so _ (is_list c.args.net.now)) listed_then faults _ _ _ _ _ _ refl refl
           (file_passes _ _ (is_list c.args.net.now) _ _ _ c.in_ok-text-in-Some.text (Ok faults) text answers.1)
           (value_passes _ _ (Some faults) _ _ refl));
-      faults = c.in-Ok.ensures.stuck;
-    }
-
-pub returns : goal.returns
-unfolding AfterFaultList
-returns g c =
-    let text = rw c.as_bytes.ensures at c.in_ok-text-in-Some.ensures.text in
-    let answers = rw c.as_slice.ensures at c.in-Err.ensures.answers in
-    record {
-      same_names = c.read_text.ensures.same_names;
-      same_bytes = c.read_text.ensures.same_bytes;
-      step = rw c.in-Some.is (first_stops _ _ _ (checked_so _ (is_list c.args.net.now)) listed_then _ _ c.of_faults.result _ refl
-          (file_passes _ _ (is_list c.args.net.now) _ _ _ c.in_ok-text-in-Some.text (Err c.of_faults.result) text (rw c.of_faults.ensures (faults_refused _ _ _ answers))));
-      faults = tt;
+      faults = c.in_ok-faults-in-Some.ensures.stuck;
     }

@@ -2,7 +2,7 @@
 use Rattle.std.proofs.Common.{sym}
 use Rattle.machine_text.specs.Machines.{default_machine}
 use Rattle.call_steps.specs.{Checks.IsMachineOf, Files.AfterMachine}
-use Rattle.call_steps.proofs.PassingLemmas.{file_passes, file_stops, no_value, value_passes}
+use Rattle.call_steps.proofs.PassingLemmas.{file_passes, file_refused, file_stops, no_value, value_passes}
 use Rattle.call_steps.proofs.RefusedLemmas.{machine_refused}
 use Rattle.call_steps.proofs.reading.machine_from.Goals as goal
 
@@ -16,16 +16,17 @@ returns-in_err-text-in-Some g c =
     let text = rw c.as_bytes.ensures at c.in_err-text-in-Some.ensures.text in
     record { same_names = c.read_text.ensures.same_names; same_bytes = c.read_text.ensures.same_bytes; step = rw c.in-Some.is (file_stops _ _ IsMachineOf _ _ _ _ _ c.from_residual.ensures.1 text); valid = no_value _ _ _ c.from_residual.ensures.1 }
 
-pub returns-in-Ok : goal.returns-in-Ok
+pub returns-in_err-machine-in-Some : goal.returns-in_err-machine-in-Some
 unfolding AfterMachine
-returns-in-Ok g c =
+returns-in_err-machine-in-Some g c =
+    let says = c.from_residual-in_err-machine-in-Some.ensures.1 in
     let text = rw c.as_bytes.ensures at c.in_ok-text-in-Some.ensures.text in
-    let answers = rw c.as_slice.ensures at c.in-Ok.ensures.answers in
-    record { same_names = c.read_text.ensures.same_names; same_bytes = c.read_text.ensures.same_bytes; step = rw c.in-Some.is (file_passes _ _ IsMachineOf _ _ _ c.in_ok-text-in-Some.text _ text answers.1); valid = c.in-Ok.ensures.valid }
+    let answers = rw c.as_slice.ensures at c.in_err-machine-in-Some.ensures.answers in
+    record { same_names = c.read_text.ensures.same_names; same_bytes = c.read_text.ensures.same_bytes; step = rw c.in-Some.is (file_refused _ _ IsMachineOf _ _ _ c.in_ok-text-in-Some.text _ _ says text (machine_refused _ _ answers)); valid = no_value _ _ _ says }
 
-pub returns : goal.returns
+pub returns-in_ok-machine-in-Some : goal.returns-in_ok-machine-in-Some
 unfolding AfterMachine
-returns g c =
+returns-in_ok-machine-in-Some g c =
     let text = rw c.as_bytes.ensures at c.in_ok-text-in-Some.ensures.text in
-    let answers = rw c.as_slice.ensures at c.in-Err.ensures.answers in
-    record { same_names = c.read_text.ensures.same_names; same_bytes = c.read_text.ensures.same_bytes; step = rw c.in-Some.is (file_passes _ _ IsMachineOf _ _ _ c.in_ok-text-in-Some.text _ text (rw c.of_machine.ensures (machine_refused _ _ answers))); valid = tt }
+    let answers = rw c.as_slice.ensures at c.in_ok-machine-in-Some.ensures.answers in
+    record { same_names = c.read_text.ensures.same_names; same_bytes = c.read_text.ensures.same_bytes; step = rw c.in-Some.is (file_passes _ _ IsMachineOf _ _ _ c.in_ok-text-in-Some.text _ text answers.1); valid = c.in_ok-machine-in-Some.ensures.valid }

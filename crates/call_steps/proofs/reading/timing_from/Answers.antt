@@ -2,7 +2,7 @@
 use Rattle.std.proofs.Common.{◌≡◌, ◌∙◌, sym, ap, refl, List, ℕ, Result, Ok, Err}
 use Rattle.net_defs.specs.declared.{timing.Timing.Timing, netlist.Netlist.Netlist}
 use Rattle.call_steps.specs.{Checks.IsListOf, Checks.listing, Outcome.Outcome, Passing.Continuation, Readings.Reading, Files.AfterList}
-use Rattle.call_steps.proofs.PassingLemmas.{both_pass, file_passes, file_stops, first_stops, no_value, value_passes}
+use Rattle.call_steps.proofs.PassingLemmas.{both_pass, file_passes, file_refused, file_stops, first_stops, no_value, value_passes}
 use Rattle.call_steps.proofs.{RefusedLemmas.list_refused, lemmas.WeakerLemmas.checked_so}
 use Rattle.call_steps.proofs.reading.timing_from.Goals as goal
 
@@ -31,25 +31,27 @@ returns-in_err-text-in-Some g c =
       timing = no_value _ _ _ c.from_residual.ensures.1;
     }
 
-pub returns-in-Ok-clause-step : goal.returns-in-Ok-clause-step
+pub returns-in_err-listed-in-Some : goal.returns-in_err-listed-in-Some
 unfolding AfterList
-returns-in-Ok-clause-step g c =
-    let timing = c.args.words.now.timing in
+returns-in_err-listed-in-Some g c =
+    let says = c.from_residual-in_err-listed-in-Some.ensures.1 in
     let text = rw c.as_bytes.ensures at c.in_ok-text-in-Some.ensures.text in
-    let answers = rw c.as_slice.ensures at c.in-Ok.ensures.answers in
-    rw (c.in-Some.is, c.listing-in-Ok.ensures.is) (both_pass _ _ _ (checked_so _ (is_list c.args.net.now)) (listing_then timing) c.in-Ok.listed _ _ _ _ _ _ refl refl
-    (file_passes _ _ (is_list c.args.net.now) _ _ _ c.in_ok-text-in-Some.text (Ok c.in-Ok.listed) text answers.1)
-    (value_passes _ _ (listing timing c.in-Ok.listed) _ _ refl))
-
-pub returns : goal.returns
-unfolding AfterList
-returns g c =
-    let text = rw c.as_bytes.ensures at c.in_ok-text-in-Some.ensures.text in
-    let answers = rw c.as_slice.ensures at c.in-Err.ensures.answers in
+    let answers = rw c.as_slice.ensures at c.in_err-listed-in-Some.ensures.answers in
     record {
       same_names = c.read_text.ensures.same_names;
       same_bytes = c.read_text.ensures.same_bytes;
-      step = rw c.in-Some.is (first_stops _ _ _ (checked_so _ (is_list c.args.net.now)) (listing_then c.args.words.now.timing) _ _ c.of_list.result _ refl
-          (file_passes _ _ (is_list c.args.net.now) _ _ _ c.in_ok-text-in-Some.text (Err c.of_list.result) text (rw c.of_list.ensures (list_refused _ _ _ answers))));
-      timing = tt;
+      step = rw c.in-Some.is (first_stops _ _ _ (checked_so _ (is_list c.args.net.now)) (listing_then c.args.words.now.timing) _ _ _ _ says
+          (file_refused _ _ (is_list c.args.net.now) _ _ _ c.in_ok-text-in-Some.text _ _ refl text (list_refused _ _ _ answers)));
+      timing = no_value _ _ _ says;
     }
+
+pub returns-in_ok-listed-in-Some-clause-step : goal.returns-in_ok-listed-in-Some-clause-step
+unfolding AfterList
+returns-in_ok-listed-in-Some-clause-step g c =
+    let timing = c.args.words.now.timing in
+    let listed = c.in_ok-listed-in-Some.listed in
+    let text = rw c.as_bytes.ensures at c.in_ok-text-in-Some.ensures.text in
+    let answers = rw c.as_slice.ensures at c.in_ok-listed-in-Some.ensures.answers in
+    rw (c.in-Some.is, c.listing-in-Some.ensures.is) (both_pass _ _ _ (checked_so _ (is_list c.args.net.now)) (listing_then timing) listed _ _ _ _ _ _ refl refl
+    (file_passes _ _ (is_list c.args.net.now) _ _ _ c.in_ok-text-in-Some.text (Ok listed) text answers.1)
+    (value_passes _ _ (listing timing listed) _ _ refl))

@@ -10,13 +10,14 @@ returns-in_err-stimulus-clause-expected g c =
     handed_on _ c.from_residual.result c.from_residual.ensures
     (stimulus_stops _ _ c.args.words.now.stimulus net (WritesCoverage net c.args.timing.now) _ _ _ (rw c.as_bytes.ensures at c.in_err-stimulus.ensures.step))
 
-pub returns-in-Ok-clause-expected : goal.returns-in-Ok-clause-expected
-returns-in-Ok-clause-expected g c =
+pub returns-in_err-lines-clause-expected : goal.returns-in_err-lines-clause-expected
+returns-in_err-lines-clause-expected g c =
     let net = c.args.design.now.net in
     let ends = WritesCoverage net c.args.timing.now in
     let stimulus = c.in_ok-stimulus.stimulus in
-    stimulus_on _ _ c.args.words.now.stimulus net ends stimulus _ _ _ _ _ _ c.in_ok-stimulus.ensures.same_names c.in_ok-stimulus.ensures.same_bytes (rw c.as_bytes.ensures at c.in_ok-stimulus.ensures.step)
-    (follows_here _ _ _ _ (ends stimulus) (refl, inl (_, c.in-Ok.ensures, refl)))
+    handed_on _ c.from_residual-in_err-lines.result c.from_residual-in_err-lines.ensures
+    (stimulus_on _ _ c.args.words.now.stimulus net ends stimulus _ _ _ _ _ _ c.in_ok-stimulus.ensures.same_names c.in_ok-stimulus.ensures.same_bytes (rw c.as_bytes.ensures at c.in_ok-stimulus.ensures.step)
+    (follows_here _ _ _ _ (ends stimulus) (refl, inr refl)))
 
 pub returns-clause-expected : goal.returns-clause-expected
 returns-clause-expected g c =
@@ -24,4 +25,4 @@ returns-clause-expected g c =
     let ends = WritesCoverage net c.args.timing.now in
     let stimulus = c.in_ok-stimulus.stimulus in
     stimulus_on _ _ c.args.words.now.stimulus net ends stimulus _ _ _ _ _ _ c.in_ok-stimulus.ensures.same_names c.in_ok-stimulus.ensures.same_bytes (rw c.as_bytes.ensures at c.in_ok-stimulus.ensures.step)
-    (follows_here _ _ _ _ (ends stimulus) (refl, inr refl))
+    (follows_here _ _ _ _ (ends stimulus) (refl, inl (_, c.in_ok-lines.ensures, refl)))

@@ -17,18 +17,19 @@ returns-in_err-planned-clause-expected g c =
     handed_on _ c.from_residual.result c.from_residual.ensures
     (stopped _ _ (AfterPlaced words) (placed_so words) (sheet_then c.args.sheet words) _ _ _ c.in_err-planned.ensures.step)
 
-pub returns-in-Ok-clause-expected : goal.returns-in-Ok-clause-expected
-returns-in-Ok-clause-expected g c =
+pub returns-in_err-text-clause-expected : goal.returns-in_err-text-clause-expected
+returns-in_err-text-clause-expected g c =
     let words = c.args.words.now in
     let design = c.in_ok-planned.planned in
     let then = sheet_then c.args.sheet words in
-    passed_on _ _ (AfterPlaced words) (placed_so words) design then _ _ _ _ _ _ c.in_ok-planned.ensures.same_names c.in_ok-planned.ensures.same_bytes c.in_ok-planned.ensures.step
-    (follows_here _ _ _ _ (then design) (refl, inl (_, rw c.in_ok-planned.ensures.homes at c.in-Ok.ensures, refl)))
+    handed_on _ c.from_residual-in_err-text.result c.from_residual-in_err-text.ensures
+    (passed_on _ _ (AfterPlaced words) (placed_so words) design then _ _ _ _ _ _ c.in_ok-planned.ensures.same_names c.in_ok-planned.ensures.same_bytes c.in_ok-planned.ensures.step
+    (follows_here _ _ _ _ (then design) (refl, inr refl)))
 
-pub returns-in-Err-clause-expected : goal.returns-in-Err-clause-expected
-returns-in-Err-clause-expected g c =
+pub returns-clause-expected : goal.returns-clause-expected
+returns-clause-expected g c =
     let words = c.args.words.now in
     let design = c.in_ok-planned.planned in
     let then = sheet_then c.args.sheet words in
     passed_on _ _ (AfterPlaced words) (placed_so words) design then _ _ _ _ _ _ c.in_ok-planned.ensures.same_names c.in_ok-planned.ensures.same_bytes c.in_ok-planned.ensures.step
-    (follows_here _ _ _ _ (then design) (refl, inr refl))
+    (follows_here _ _ _ _ (then design) (refl, inl (_, rw c.in_ok-planned.ensures.homes at c.in_ok-text.ensures, refl)))

@@ -6,18 +6,18 @@ use Rattle.yse_commands.specs.Outputs.{cycle_lines}
 use Rattle.yse_commands.proofs.TraceLemmas.{printed_is_trace}
 use Rattle.yse_commands.proofs.refer.kept.Goals as goal
 
-pub returns-in-Ok-clause-expected : goal.returns-in-Ok-clause-expected
-returns-in-Ok-clause-expected c =
+pub returns-clause-expected : goal.returns-clause-expected
+returns-clause-expected c =
     let net = c.args.design.net in
     let timing = c.args.timing.now in
     let stimulus = c.args.stimulus.now in
-    let trace = c.in-Ok.trace in
-    let is_trace = subst (λ n. IsTrace net timing stimulus (header_line n ++ cycle_lines trace.rows.rows)) (sym c.in-Ok.ensures.printed.0)
-    (printed_is_trace net timing stimulus trace.rows c.in-Ok.ensures.printed.1) in
+    let trace = c.in_ok-trace.trace in
+    let is_trace = subst (λ n. IsTrace net timing stimulus (header_line n ++ cycle_lines trace.rows.rows)) (sym c.in_ok-trace.ensures.printed.0)
+    (printed_is_trace net timing stimulus trace.rows c.in_ok-trace.ensures.printed.1) in
     inl (tt, c.in_ok-few_cells.ensures, (refl, inl (_, is_trace, refl)))
 
-pub returns-in-Err-clause-expected : goal.returns-in-Err-clause-expected
-returns-in-Err-clause-expected c = inl (tt, c.in_ok-few_cells.ensures, (refl, inr refl))
+pub returns-in_err-trace-clause-expected : goal.returns-in_err-trace-clause-expected
+returns-in_err-trace-clause-expected c = let p = err_from_is_err_and c.from_residual-in_err-trace.result c.from_residual-in_err-trace.ensures.1 in rw (p.1, p.2) (inl (tt, c.in_ok-few_cells.ensures, (refl, inr refl)))
 
 pub returns-in_err-few_cells-clause-expected : goal.returns-in_err-few_cells-clause-expected
 returns-in_err-few_cells-clause-expected c = let p = err_from_is_err_and c.from_residual.result c.from_residual.ensures.1 in rw (p.1, p.2) (inr (refl, c.in_err-few_cells.ensures))

@@ -18,13 +18,14 @@ returns-in_err-net-clause-expected g c =
     handed_on _ c.from_residual.result c.from_residual.ensures
     (stopped _ _ (AfterNetlistFile file) (netlist_file_so file) net_then _ _ _ c.in_err-net.ensures.step)
 
-pub returns-in-Ok-clause-expected : goal.returns-in-Ok-clause-expected
+pub returns-in_err-text-clause-expected : goal.returns-in_err-text-clause-expected
 unfolding ExpectedShow
-returns-in-Ok-clause-expected g c =
+returns-in_err-text-clause-expected g c =
     let file = c.args.file.now in
     let net = c.in_ok-net.net in
-    passed_on _ _ (AfterNetlistFile file) (netlist_file_so file) net net_then _ _ _ _ _ _ c.in_ok-net.ensures.same_names c.in_ok-net.ensures.same_bytes c.in_ok-net.ensures.step
-    (follows_here _ _ _ _ (net_then net) (refl, inl (_, c.in-Ok.ensures, refl)))
+    handed_on _ c.from_residual-in_err-text.result c.from_residual-in_err-text.ensures
+    (passed_on _ _ (AfterNetlistFile file) (netlist_file_so file) net net_then _ _ _ _ _ _ c.in_ok-net.ensures.same_names c.in_ok-net.ensures.same_bytes c.in_ok-net.ensures.step
+    (follows_here _ _ _ _ (net_then net) (refl, inr refl)))
 
 pub returns-clause-expected : goal.returns-clause-expected
 unfolding ExpectedShow
@@ -32,4 +33,4 @@ returns-clause-expected g c =
     let file = c.args.file.now in
     let net = c.in_ok-net.net in
     passed_on _ _ (AfterNetlistFile file) (netlist_file_so file) net net_then _ _ _ _ _ _ c.in_ok-net.ensures.same_names c.in_ok-net.ensures.same_bytes c.in_ok-net.ensures.step
-    (follows_here _ _ _ _ (net_then net) (refl, inr refl))
+    (follows_here _ _ _ _ (net_then net) (refl, inl (_, c.in_ok-text.ensures, refl)))
