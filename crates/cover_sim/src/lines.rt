@@ -1,12 +1,11 @@
 //! The lines of the marks of all signals: for each signal its name and its marks, and a last line on how many are
 //! covered.
 
-ghost use Rattle.std.specs.Prelude.{◌≡◌, ◌++◌, IfOk, OnOk, count_by, decimal, length, map};
+ghost use Rattle.std.specs.Prelude.{◌≡◌, IfOk, count_by, length, map};
 ghost use Rattle.std.specs.List.{zip};
 ghost use Rattle.cover_sim.specs.Lines.{cover_lines, covered_line, is_covered, sign_of, signal_line};
 
 use crate::Marks;
-use itoa::Buffer;
 use net_defs::{Netlist, Signal};
 use seen_list::{List, Memory, Text};
 use std::alloc::Global;
@@ -77,16 +76,10 @@ fn covered_line(alloc: Global, covered: usize, all: usize) -> Result<Text, Memor
     ensures { IfOk result (λ line. line ≡ covered_line covered all) }
 {
     let mut line = Text::new(alloc);
-    push_count(&mut line, b"covered ", covered)?;
-    push_count(&mut line, b" of ", all)?;
+    line.push_bytes(b"covered ")?;
+    line.push_decimal(covered as u64)?;
+    line.push_bytes(b" of ")?;
+    line.push_decimal(all as u64)?;
     line.push_bytes(b"\n")?;
     Ok(line)
-}
-
-/// Adds a word and a number.
-fn push_count(line: &mut Text, word: &[u8], count: usize) -> Result<(), Memory>
-    ensures { OnOk result (line.new ≡ line.old ++ (word.now ++ decimal count)) }
-{
-    line.push_bytes(word)?;
-    line.push_bytes(Buffer::new().format(count).as_bytes())
 }

@@ -31,7 +31,7 @@ pub use plain_files::PlainFiles;
 pub use plain_sink::PlainSink;
 pub use reading::{ReadNo, read_file};
 pub use sink::Sink;
-pub use writing::{WriteNo, write_whole};
+pub use writing::{WriteNo, write_piece, write_whole};
 
 /// A fault of starting a file, of reading or of writing.
 #[derive(Clone, Copy, PartialEq, Eq)]

@@ -2,7 +2,7 @@
 
 ghost use Rattle.std.specs.Prelude.{◌≡◌, ◌≤◌, [], length, OnOk, OnErr, IsOk};
 ghost use Rattle.std.specs.Io.KnownBytes.{append_known};
-ghost use Rattle.edge_io.specs.{Counts.raised, Counts.Rose, Writing.TakesProperPrefix};
+ghost use Rattle.edge_io.specs.{Counts.raised, Counts.Rose, Writing.TakesProperPrefix, Writing.Writes};
 
 use crate::{Failed, Sink};
 
@@ -32,4 +32,11 @@ pub fn write_whole<S: Sink>(sink: &mut S, piece: &[u8]) -> Result<(), WriteNo>
         }
     }
     Ok(())
+}
+
+/// Writes a whole piece, as `write_whole` does. The clause is the one record by which the pieces of an output join.
+pub fn write_piece<S: Sink>(sink: &mut S, piece: &[u8]) -> Result<(), WriteNo>
+    ensures { Writes S.Sink.own sink.old sink.new result piece.now }
+{
+    write_whole(sink, piece)
 }

@@ -8,7 +8,6 @@ ghost use Rattle.net_defs.specs.Canonical.{name_of};
 ghost use Rattle.fault_sim.specs.Lines.{column_name, detected_line, fault_lines, is_detected, place_words, stuck_digit, verdict_line};
 
 use crate::{Fault, Verdict};
-use itoa::Buffer;
 use logic_four::V4;
 use net_defs::{Netlist, name_of};
 use seen_list::{List, Memory, Text};
@@ -101,7 +100,7 @@ fn push_place(line: &mut Text, net: &Netlist, verdict: Verdict) -> Result<(), Me
 fn push_seen(line: &mut Text, net: &Netlist, cycle: u32, column: u32) -> Result<(), Memory>
     ensures { OnOk result (line.new ≡ line.old ++ place_words net.now (Verdict.Seen cycle column)) }
 {
-    line.push_bytes(Buffer::new().format(cycle).as_bytes())?;
+    line.push_decimal(cycle as u64)?;
     line.push_bytes(b" ")?;
     line.push_bytes(column_name(net, column))?;
     Ok(())
@@ -139,16 +138,10 @@ fn detected_line(alloc: Global, seen: usize, all: usize) -> Result<Text, Memory>
     ensures { IfOk result (λ line. line ≡ detected_line seen all) }
 {
     let mut line = Text::new(alloc);
-    push_count(&mut line, b"detected ", seen)?;
-    push_count(&mut line, b" of ", all)?;
+    line.push_bytes(b"detected ")?;
+    line.push_decimal(seen as u64)?;
+    line.push_bytes(b" of ")?;
+    line.push_decimal(all as u64)?;
     line.push_bytes(b"\n")?;
     Ok(line)
-}
-
-/// Adds a word and a number.
-fn push_count(line: &mut Text, word: &[u8], count: usize) -> Result<(), Memory>
-    ensures { OnOk result (line.new ≡ line.old ++ (word.now ++ decimal count)) }
-{
-    line.push_bytes(word)?;
-    line.push_bytes(Buffer::new().format(count).as_bytes())
 }

@@ -10,13 +10,13 @@ use Rattle.image_defs.specs.declared.file.ImageFile.{ImageFile}
 use Rattle.image_check.specs.declared.check.CheckNo.TheVariants as no
 use Rattle.image_check.specs.{Check.HasAnswer, code.Differences.IsFirstSlot}
 use Rattle.image_check.proofs.{FirstLemmas.all_match, FirstLemmas.first_place_at, FormKnown.form_known, FormKnown.stands_known}
-use Rattle.image_check.proofs.lemmas.KnownLemmas.{known_some, first_or_all}
+use Rattle.list_laws.proofs.Decidable.{decide_some, first_or_all}
 use Rattle.image_check.proofs.lemmas.MatchKnown.{place_known, column_known, timing_known}
 
 module _ (file : ImageFile) (nodes : NodeNet) (timing : Timing) where
   -- what stands in a slot of a port
   item_there : (p slot : ℕ) → (PlaceMatches file.image (lists_of file.claims) nodes p slot → ⊥) → (port : PortImage) × IsPort file.image p port × ((i : ℕ) × IsItemIn port.work i slot)
-  item_there p slot differs = elim (known_some (λ (port : PortImage). (i : ℕ) × IsItemIn port.work i slot) (λ port. stands_known cases_eq (item_slots port.work) slot) (slice_get file.image.ports p)) [
+  item_there p slot differs = elim (decide_some (λ (port : PortImage). (i : ℕ) × IsItemIn port.work i slot) (λ port. stands_known cases_eq (item_slots port.work) slot) (slice_get file.image.ports p)) [
     | inl found ↦ found
     | inr none ↦ absurd (differs (λ i x port is stands claimed. absurd (none (port, is, (i, stands)))))
   ]

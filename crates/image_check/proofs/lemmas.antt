@@ -1,3 +1,2 @@
 pub mod EachLemmas
-pub mod KnownLemmas
 pub mod MatchKnown

@@ -1,10 +1,10 @@
 //! The slots of each port.
 
-ghost use Rattle.std.specs.Prelude.{◌≡◌, IfOk, map};
-ghost use Rattle.image_defs.specs.Places.{item_slots, in_slots, out_slots, task_slot};
+ghost use Rattle.std.specs.Prelude.{◌≡◌, IfOk};
+ghost use Rattle.image_defs.specs.Places.{in_slots, out_slots};
 ghost use Rattle.image_check.specs.code.Shapes.{IsShapeOf, AreShapesOf};
 
-use image_defs::{InColumn, LinkIn, LinkOut, OutBit, PortImage, Task, Work};
+use image_defs::{LinkIn, LinkOut, PortImage, slots_of};
 use seen_list::{List, Memory};
 use std::alloc::Global;
 
@@ -30,59 +30,10 @@ pub(crate) fn shapes(alloc: Global, ports: &[PortImage]) -> Result<List<Shape>, 
 fn port_shape(alloc: Global, port: &PortImage) -> Result<Shape, Memory>
     ensures { IfOk result (IsShapeOf port.now) }
 {
-    let items = work_slots(alloc, &port.work)?;
+    let items = slots_of(alloc, &port.work)?;
     let outs = send_slots(alloc, port.outs.as_slice())?;
     let ins = receipt_slots(alloc, port.ins.as_slice())?;
     Ok(Shape { items, outs, ins })
-}
-
-fn work_slots(alloc: Global, work: &Work) -> Result<List<u32>, Memory>
-    ensures { IfOk result (λ slots. slots ≡ item_slots work.now) }
-{
-    match work {
-        Work::Logic { tasks, .. } => task_slots(alloc, tasks.as_slice()),
-        Work::Array { outs, .. } => bit_slots(alloc, outs.as_slice()),
-        Work::Host { inputs, .. } => input_slots(alloc, inputs.as_slice()),
-    }
-}
-
-fn task_slots(alloc: Global, tasks: &[Task]) -> Result<List<u32>, Memory>
-    ensures { IfOk result (λ slots. slots ≡ map task_slot tasks.now) }
-{
-    let mut slots = List::new(alloc);
-    'tasks: for k in 0..tasks.len() {
-        slots.push(slot_of(&tasks[k]))?;
-    }
-    Ok(slots)
-}
-
-fn slot_of(task: &Task) -> u32
-    ensures { result ≡ task_slot task.now }
-{
-    match task {
-        Task::Eval { slot, .. } => *slot,
-        Task::Hold { slot, .. } => *slot,
-    }
-}
-
-fn bit_slots(alloc: Global, outs: &[OutBit]) -> Result<List<u32>, Memory>
-    ensures { IfOk result (λ slots. slots ≡ map (λ out. out.slot) outs.now) }
-{
-    let mut slots = List::new(alloc);
-    'outs: for k in 0..outs.len() {
-        slots.push(outs[k].slot)?;
-    }
-    Ok(slots)
-}
-
-fn input_slots(alloc: Global, inputs: &[InColumn]) -> Result<List<u32>, Memory>
-    ensures { IfOk result (λ slots. slots ≡ map (λ input. input.slot) inputs.now) }
-{
-    let mut slots = List::new(alloc);
-    'inputs: for k in 0..inputs.len() {
-        slots.push(inputs[k].slot)?;
-    }
-    Ok(slots)
 }
 
 fn send_slots(alloc: Global, sends: &[LinkOut]) -> Result<List<u32>, Memory>

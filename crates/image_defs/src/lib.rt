@@ -14,8 +14,10 @@
 mod file;
 mod image;
 pub mod law;
+mod slots;
 
 pub use file::{Claims, ImageFile, PortClaims};
 pub use image::{
     BlockWork, Image, InColumn, LinkIn, LinkOut, OutBit, PortImage, Source, Task, Work,
 };
+pub use slots::slots_of;

@@ -9,19 +9,17 @@ ghost use Rattle.image_lines.specs.declared.line.Line.TheVariants as line;
 use crate::line::PortKind;
 use func_table::Table;
 use image_defs::{BlockWork, InColumn, LinkIn, LinkOut, OutBit, Source, Task};
-use itoa::Buffer;
 use logic_four::to_char;
 use net_defs::Init;
 use seen_list::{Memory, Text};
 
 /// Adds a space and a number.
 #[tactic(auto, unfolding(crate::specs::code::Words::spaced))]
-fn push_number(text: &mut Text, n: u32) -> Result<(), Memory>
+fn push_number(text: &mut Text, n: u64) -> Result<(), Memory>
     ensures { OnOk result (text.new ≡ text.old ++ spaced (decimal n)) }
 {
-    let mut buffer = Buffer::new();
     text.push_bytes(b" ")?;
-    text.push_bytes(buffer.format(n).as_bytes())
+    text.push_decimal(n)
 }
 
 /// Adds a space and a source.
@@ -41,9 +39,8 @@ fn push_source(text: &mut Text, source: &Source) -> Result<(), Memory>
 fn push_place(text: &mut Text, mark: u8, slot: u32) -> Result<(), Memory>
     ensures { OnOk result (text.new ≡ text.old ++ spaced (mark ∷ decimal slot)) }
 {
-    let mut buffer = Buffer::new();
     text.push_bytes(&[b' ', mark])?;
-    text.push_bytes(buffer.format(slot).as_bytes())
+    text.push_decimal(slot as u64)
 }
 
 /// Adds a space and a word of a table.
@@ -105,7 +102,7 @@ pub fn push_head(
     push_times(text, slots, units, init)?;
     push_named(text, b" columns", columns)?;
     text.push_bytes(b" ports")?;
-    push_count(text, ports)?;
+    push_number(text, ports as u64)?;
     text.push_bytes(b"\n")
 }
 
@@ -124,17 +121,7 @@ fn push_named(text: &mut Text, word: &[u8], n: u32) -> Result<(), Memory>
     ensures { OnOk result (text.new ≡ text.old ++ word.now ++ spaced (decimal n)) }
 {
     text.push_bytes(word)?;
-    push_number(text, n)
-}
-
-/// Adds a space and a count.
-#[tactic(auto, unfolding(crate::specs::code::Words::spaced))]
-fn push_count(text: &mut Text, n: usize) -> Result<(), Memory>
-    ensures { OnOk result (text.new ≡ text.old ++ spaced (decimal n)) }
-{
-    let mut buffer = Buffer::new();
-    text.push_bytes(b" ")?;
-    text.push_bytes(buffer.format(n).as_bytes())
+    push_number(text, n as u64)
 }
 
 #[tactic(auto, unfolding(crate::specs::Words::init_word, crate::specs::code::Words::spaced))]
@@ -221,7 +208,7 @@ fn push_hold(text: &mut Text, slot: u32, from: &Source, item: u32) -> Result<(),
 fn push_item(text: &mut Text, item: u32) -> Result<(), Memory>
     ensures { OnOk result (text.new ≡ text.old ++ spaced (decimal item) ++ codes "\n") }
 {
-    push_number(text, item)?;
+    push_number(text, item as u64)?;
     text.push_bytes(b"\n")
 }
 
@@ -266,8 +253,8 @@ pub fn push_block(text: &mut Text, block: &BlockWork) -> Result<(), Memory>
     ensures { OnOk result (text.new ≡ text.old ++ line_text (line.Block block.now)) }
 {
     text.push_bytes(b"block")?;
-    push_count(text, block.address.len())?;
-    push_count(text, block.word.len())?;
+    push_number(text, block.address.len() as u64)?;
+    push_number(text, block.word.len() as u64)?;
     push_source(text, &block.we)?;
     push_sources(text, block.address.as_slice())?;
     push_sources(text, block.word.as_slice())?;
@@ -297,7 +284,7 @@ fn push_numbers(text: &mut Text, numbers: &[u32]) -> Result<(), Memory>
     ensures { OnOk result (text.new ≡ text.old ++ flat_map (λ n. spaced (decimal n)) numbers.now) }
 {
     for number in numbers {
-        push_number(text, *number)?;
+        push_number(text, *number as u64)?;
     }
     Ok(())
 }

@@ -9,7 +9,6 @@ ghost use Rattle.large_run.specs.Draws.{IsState};
 
 use crate::draws::Draws;
 use crate::gate::gate_driver;
-use itoa::Buffer;
 use net_defs::{Driver, Netlist, Signal};
 use seen_list::{List, Memory, Text};
 use std::alloc::Global;
@@ -105,6 +104,6 @@ fn numbered(alloc: Global, letter: &[u8], number: u32) -> Result<Text, Memory>
     ensures { IfOk result (λ name. name ≡ letter.now ++ decimal number) }
 {
     let mut name = Text::from_bytes(alloc, letter)?;
-    name.push_bytes(Buffer::new().format(number).as_bytes())?;
+    name.push_decimal(number as u64)?;
     Ok(name)
 }

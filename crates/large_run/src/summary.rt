@@ -5,7 +5,6 @@ ghost use Rattle.logic_four.specs.declared.V4.{V4 as Value};
 ghost use Rattle.large_run.specs.Summaries.{counts_of, plan_line, cells_line, summary_text as text_of};
 ghost use Rattle.large_run.specs.code.Summaries.{with_cell};
 
-use itoa::Buffer;
 use logic_four::V4;
 use seen_list::{Memory, Text};
 use std::alloc::Global;
@@ -116,15 +115,8 @@ fn push_pair(
 ) -> Result<(), Memory>
     ensures { OnOk result (text.new ≡ text.old ++ (first.now ++ decimal one ++ second.now ++ decimal other)) }
 {
-    push_count(text, first, one)?;
-    push_count(text, second, other)
-}
-
-/// Adds a word and a number.
-fn push_count(text: &mut Text, word: &[u8], count: u64) -> Result<(), Memory>
-    ensures { OnOk result (text.new ≡ text.old ++ (word.now ++ decimal count)) }
-{
-    text.push_bytes(word)?;
-    text.push_bytes(Buffer::new().format(count).as_bytes())?;
-    Ok(())
+    text.push_bytes(first)?;
+    text.push_decimal(one)?;
+    text.push_bytes(second)?;
+    text.push_decimal(other)
 }

@@ -1,3 +1,4 @@
+pub mod Decidable
 pub mod Differ
 pub mod Maps
 pub mod Members

@@ -8,14 +8,14 @@ ghost use Rattle.port_host.specs.Rows.{printed_sources};
 ghost use Rattle.stim_text.specs.Lanes.{AreLanes, longest};
 ghost use Rattle.pack_machine.specs.{Lines.bytes_of_lane, Lines.bytes_of_lanes, code.Ends.IsHostAtEnd, code.Lines.HasLineRoom, code.Lines.cells_in_lane};
 
-use edge_io::{Sink, WriteNo};
+use edge_io::{Sink, WriteNo, write_piece};
 use logic_four::V4;
 use net_defs::{Netlist, Stimulus};
 use pack_run::PackRunning;
 use seen_list::{List, Memory};
 use std::alloc::Global;
 use stim_text::Lanes;
-use trace_text::{LaneMark, TraceLine, write_piece};
+use trace_text::{LaneMark, TraceLine};
 
 /// Room for the line of a lane, for a line of a trace, and for the cells of a row.
 #[derive(Drop)]

@@ -7,7 +7,6 @@ ghost use Rattle.plan_text.specs.Lines.{port_name, port_part, port_line, helper_
 ghost use Rattle.plan_text.specs.Counted.{HasPorts};
 
 use crate::figures::Figures;
-use itoa::Buffer;
 use net_defs::{Netlist, name_of};
 use node_defs::NodeNet;
 use plan_defs::Homes;
@@ -95,8 +94,7 @@ pub(crate) fn push_count(text: &mut Text, word: &[u8], count: u64) -> Result<(),
     ensures { OnOk result (text.new ≡ text.old ++ (word.now ++ decimal count)) }
 {
     text.push_bytes(word)?;
-    text.push_bytes(Buffer::new().format(count).as_bytes())?;
-    Ok(())
+    text.push_decimal(count)
 }
 
 /// Adds a line for each item, in item order.

@@ -6,8 +6,8 @@ ghost use Rattle.image_defs.specs.WellFormed.{IsWellFormed};
 ghost use Rattle.port_walk.specs.{Rows.AreReaders, Stops.AreStops};
 
 use crate::readers::{Readers, readers_of};
-use crate::stops::{Stop, slots_of, stops_of};
-use image_defs::{Image, PortImage};
+use crate::stops::{Stop, stops_of};
+use image_defs::{Image, PortImage, slots_of};
 use seen_list::{List, Memory};
 use std::alloc::Global;
 

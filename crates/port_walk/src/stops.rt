@@ -3,11 +3,11 @@
 ghost use Rattle.std.specs.Prelude.{◌≡◌, ◌+◌, ◌≤◌, map, length, slice_get, IfOk};
 ghost use Rattle.std.specs.List.Sorted.{IsStrictlyIncreasing};
 ghost use Rattle.limits.specs.declared.TheConstants.{MAX_SLOTS};
-ghost use Rattle.image_defs.specs.Places.{item_slots, task_slot, in_slots, out_slots};
+ghost use Rattle.image_defs.specs.Places.{in_slots, out_slots};
 ghost use Rattle.port_walk.specs.Stops.{kind_at, slot_at, kind_of, slot_of, IsFront, AreStops};
 ghost use Rattle.port_walk.specs.code.Stops.{AreAllBefore, ArePlaces};
 
-use image_defs::{InColumn, LinkIn, LinkOut, OutBit, Task, Work};
+use image_defs::{LinkIn, LinkOut};
 use seen_list::{List, Memory};
 use std::alloc::Global;
 
@@ -26,52 +26,6 @@ pub struct Stop {
     pub kind: StopKind,
     pub slot: u32,
     pub items: u32,
-}
-
-/// The slots of tasks, in their order.
-fn task_slots(alloc: Global, tasks: &[Task]) -> Result<List<u32>, Memory>
-    ensures { IfOk result (λ slots. slots ≡ map task_slot tasks.now) }
-{
-    let mut slots = List::new(alloc);
-    'tasks: for task in tasks {
-        slots.push(match task {
-            Task::Eval { slot, .. } | Task::Hold { slot, .. } => *slot,
-        })?;
-    }
-    Ok(slots)
-}
-
-/// The slots of output bits, in their order.
-fn bit_slots(alloc: Global, bits: &[OutBit]) -> Result<List<u32>, Memory>
-    ensures { IfOk result (λ slots. slots ≡ map (λ bit. bit.slot) bits.now) }
-{
-    let mut slots = List::new(alloc);
-    'bits: for bit in bits {
-        slots.push(bit.slot)?;
-    }
-    Ok(slots)
-}
-
-/// The slots of inputs, in their order.
-fn input_slots(alloc: Global, inputs: &[InColumn]) -> Result<List<u32>, Memory>
-    ensures { IfOk result (λ slots. slots ≡ map (λ input. input.slot) inputs.now) }
-{
-    let mut slots = List::new(alloc);
-    'inputs: for input in inputs {
-        slots.push(input.slot)?;
-    }
-    Ok(slots)
-}
-
-/// The slots of a port's items, in their order.
-pub fn slots_of(alloc: Global, work: &Work) -> Result<List<u32>, Memory>
-    ensures { IfOk result (λ slots. slots ≡ item_slots work.now) }
-{
-    match work {
-        Work::Logic { tasks, .. } => task_slots(alloc, tasks.as_slice()),
-        Work::Array { outs, .. } => bit_slots(alloc, outs.as_slice()),
-        Work::Host { inputs, .. } => input_slots(alloc, inputs.as_slice()),
-    }
 }
 
 /// What comes first, where the port sends next in one slot and receives next in the other.

@@ -13,10 +13,9 @@ use crate::lines::order::write_order_line;
 use crate::lines::overfull::write_overfull_line;
 use crate::lines::stimulus::{write_lanes_line, write_stimulus_line};
 use crate::lines::{write_memory_line, write_pieces};
-use crate::piece::write_piece;
 use crate::refusal::Refusal;
 use crate::status::Status;
-use edge_io::{Sink, WriteNo};
+use edge_io::{Sink, WriteNo, write_piece};
 use itoa::Buffer;
 use limits::{MAX_CELLS, MAX_FAULT_SIGNALS, MAX_PACK_BITS, MAX_TEXT_BYTES};
 

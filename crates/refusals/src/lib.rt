@@ -9,12 +9,10 @@
 
 mod diagnostics;
 mod lines;
-mod piece;
 mod refusal;
 mod status;
 
 pub use diagnostics::{refuse, tell_write_fault};
 pub use lines::order::write_unfinished_line;
-pub use piece::write_piece;
 pub use refusal::Refusal;
 pub use status::Status;

@@ -13,8 +13,7 @@ pub mod order;
 pub mod overfull;
 pub mod stimulus;
 
-use crate::piece::write_piece;
-use edge_io::{Sink, WriteNo};
+use edge_io::{Sink, WriteNo, write_piece};
 use itoa::Buffer;
 
 /// Writes pieces one after the other, up to the first fault.

@@ -1,9 +1,10 @@
 //! A text that grows at its end.
 
-ghost use Rattle.std.specs.Prelude.{◌≡◌, ◌↔◌, [], ◌++◌, length, OnErr, OnOk, IfOk, IsTrue};
+ghost use Rattle.std.specs.Prelude.{◌≡◌, ◌↔◌, [], ◌++◌, decimal, length, OnErr, OnOk, IfOk, IsTrue};
 
 use crate::Memory;
 use crate::list::bare;
+use itoa::Buffer;
 use std::alloc::Global;
 use std::marker::Model;
 
@@ -65,5 +66,13 @@ impl Text {
     {
         self.inner.extend_from_slice(piece)?;
         Ok(())
+    }
+
+    /// Adds a number in decimal digits at the end, without leading zeros, or, refused, nothing of it.
+    pub fn push_decimal(&mut self, number: u64) -> Result<(), Memory>
+        ensures ok { OnOk result (self.new ≡ self.old ++ decimal number) }
+        ensures err { OnErr result (self.new ≡ self.old) }
+    {
+        self.push_bytes(Buffer::new().format(number).as_bytes())
     }
 }

@@ -10,12 +10,10 @@
 
 mod line;
 mod mark;
-mod piece;
 mod texts;
 mod traces;
 
 pub use line::TraceLine;
 pub use mark::LaneMark;
-pub use piece::write_piece;
 pub use texts::write_texts;
 pub use traces::write_trace;

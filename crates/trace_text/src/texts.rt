@@ -2,8 +2,7 @@
 
 ghost use Rattle.edge_io.specs.Writing.{joined, Writes};
 
-use crate::piece::write_piece;
-use edge_io::{Sink, WriteNo};
+use edge_io::{Sink, WriteNo, write_piece};
 use seen_list::Text;
 
 /// Writes the lines, each as one piece. It takes no memory.

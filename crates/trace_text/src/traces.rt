@@ -7,8 +7,7 @@ ghost use Rattle.limits.specs.declared.TheConstants.{MAX_CYCLES};
 ghost use Rattle.net_defs.specs.declared.trace.CellRow.{CellRow};
 
 use crate::TraceLine;
-use crate::piece::write_piece;
-use edge_io::{Sink, WriteNo};
+use edge_io::{Sink, WriteNo, write_piece};
 use net_defs::{CellRow, Netlist};
 
 /// Writes the header with the netlist's printed names, and then the line of each cycle, one line a piece. It takes

@@ -4,10 +4,9 @@ ghost use Rattle.std.specs.Prelude.{IsErr, OnErr};
 ghost use Rattle.yse_commands.specs.Outputs.{bytes_of, trace_bytes, CanEnd, CanPrint, HasTaken, wrote_in};
 ghost use Rattle.edge_io.specs.Writing.{Writes};
 
-use edge_io::{Sink, WriteNo};
+use edge_io::{Sink, WriteNo, write_piece};
 use image_defs::Image;
 use net_defs::{Netlist, Rows, Stimulus};
-use refusals::write_piece;
 use seen_list::{List, Text};
 use stim_text::Lanes;
 use trace_text::{TraceLine, write_texts, write_trace};

@@ -4,7 +4,6 @@ ghost use Rattle.std.specs.Prelude.{◌≡◌, ◌++◌, IfOk, OnOk};
 ghost use Rattle.yse_commands.specs.commands.Plan.{IsReportOf, crossings_line, homes_word, told_of_homes};
 
 use call_steps::Planned;
-use itoa::Buffer;
 use net_defs::HomeChoice;
 use plan_defs::law::items_are_well_formed;
 use plan_text::report;
@@ -46,9 +45,9 @@ fn push_crossings(text: &mut Text, before: u64, after: u64, better: bool) -> Res
     ensures { OnOk result (text.new ≡ text.old ++ crossings_line before after better) }
 {
     text.push_bytes(b"crossings ")?;
-    text.push_bytes(Buffer::new().format(before).as_bytes())?;
+    text.push_decimal(before)?;
     text.push_bytes(b" better ")?;
-    text.push_bytes(Buffer::new().format(after).as_bytes())?;
+    text.push_decimal(after)?;
     text.push_bytes(b" used ")?;
     text.push_bytes(homes_word(better))?;
     text.push_bytes(b"\n")?;

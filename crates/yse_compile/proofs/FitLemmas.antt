@@ -10,7 +10,7 @@ use Rattle.slot_plan.specs.Refusals.{IsCrowded, IsLong}
 use Rattle.switch_set.proofs.lemmas.SameLemmas.{one_lists}
 use Rattle.yse_compile.specs.declared.compiler.CompNo.TheVariants.{Bits, Nodes, Slots, Functions}
 use Rattle.yse_compile.specs.{Chosen.HomesFit, declared.compiler.CompNo.CompNo, Designs.IsAcyclic, Designs.DesignFits, Compiled.IsRight, Compiled.IsOverfull}
-use Rattle.image_check.proofs.lemmas.KnownLemmas.{first_or_all}
+use Rattle.list_laws.proofs.Decidable.{first_or_all}
 use Rattle.yse_compile.proofs.lemmas.{SamePlans.plan_kept, SameTables.tables_few}
 
 -- ---- items at their homes have a plan that fits, or are refused

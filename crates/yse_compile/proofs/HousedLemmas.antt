@@ -14,7 +14,7 @@ use Rattle.home_pick.specs.code.Rooms.{limits_of, LacksBits, IsMostLeft, AreFill
 use Rattle.home_pick.proofs.FillLemmas.{filled_none, filled_more, none_found, left_none, left_more, bits_read, some_bits}
 use Rattle.home_pick.proofs.HomeLemmas.{picked_are, ports_more, computed_last, node_room_left, source_first}
 use Rattle.home_pick.proofs.TurnLemmas.{turned_none, turned_before, turned_more, in_turn, room_left, some_unspent}
-use Rattle.image_check.proofs.lemmas.KnownLemmas.{known_less}
+use Rattle.list_laws.proofs.Decidable.{decide_less}
 use Rattle.yse_compile.proofs.KnownLemmas.{least_or_all}
 
 -- the most that is left on the first n array ports
@@ -38,7 +38,7 @@ AreFilledOrNot nodes machine n =
 
 filled_next : (nodes : NodeNet) (machine : Machine) (n : ℕ) → IsWellFormed nodes → n < length nodes.blocks → (filling : _) → AreFilled nodes machine n filling → AreFilledOrNot nodes machine (n + 1)
 filled_next nodes machine n formed low filling before =
-    told (least_or_all (LacksBits filling.left (bits_of nodes n)) (λ a. known_less (get_or filling.left a 0) (bits_of nodes n)) machine.array) where
+    told (least_or_all (LacksBits filling.left (bits_of nodes n)) (λ a. decide_less (get_or filling.left a 0) (bits_of nodes n)) machine.array) where
       left : (bits : ℕ) × IsMostLeft filling.left (length filling.left) bits
       left = most_left filling.left (length filling.left)
 

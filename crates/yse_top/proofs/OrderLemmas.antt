@@ -6,7 +6,7 @@ use Rattle.machine_text.specs.{declared.machine.Machine.Machine, Machines.ports_
 use Rattle.net_defs.specs.declared.{homes.HomeChoice.HomeChoice, netlist.Netlist.Netlist, stimulus.Stimulus.Stimulus, timing.Timing.Timing}
 use Rattle.net_defs.specs.{Reference.HasOneSimulation, Steps.State, Time.cycle_count, Time.turn_count, Trace.trace_to}
 use Rattle.image_defs.specs.{declared.image.Image.Image, declared.image.PortImage.PortImage, Places.Each, Places.IsPort, WellFormed.IsWellFormed}
-use Rattle.image_check.proofs.lemmas.KnownLemmas.{IsKnown, known_each, known_same}
+use Rattle.list_laws.proofs.Decidable.{IsDecidable, decide_each, decide_same}
 use Rattle.node_defs.proofs.lemmas.MemberLemmas.{member_at}
 use Rattle.event_defs.specs.Steps.{CoreState, AreFirstSteps, AllDone, rows_done}
 use Rattle.event_defs.specs.{Linked.AreLinkedAlike, declared.place.Place.Place, declared.place.CoreStep.CoreStep}
@@ -76,10 +76,10 @@ module _ (net : Netlist) (timing : Timing) (stimulus : Stimulus) where
   -- ---- there is an outcome
 
   -- whether all ports are done
-  done_known : (image : Image) (until : ℕ) (state : CoreState) → IsKnown (AllDone image until state)
+  done_known : (image : Image) (until : ℕ) (state : CoreState) → IsDecidable (AllDone image until state)
   done_known image until state =
-      known_same ((p : ℕ) (port : PortImage) → IsPort image p port → (state.place p).turn ≡ until + 1) (AllDone image until state) (λ each. record { each = each }) (λ done. done.each)
-      (known_each (λ p port. (state.place p).turn ≡ until + 1) (λ p port. cases_eq (state.place p).turn (until + 1)) image.ports)
+      decide_same ((p : ℕ) (port : PortImage) → IsPort image p port → (state.place p).turn ≡ until + 1) (AllDone image until state) (λ each. record { each = each }) (λ done. done.each)
+      (decide_each (λ p port. (state.place p).turn ≡ until + 1) (λ p port. cases_eq (state.place p).turn (until + 1)) image.ports)
 
   -- the steps of a valid order are of its ports
   steps_within : (ports : ℕ) (order : Order) → IsValidOrder ports order → Each (λ p. p < ports) (steps_of order)
@@ -115,7 +115,7 @@ module _ (net : Netlist) (timing : Timing) (stimulus : Stimulus) where
       ends = ends;
     }
 
-    told : IsKnown (AllDone has.chosen.compiled.image (turn_count timing stimulus) after.1) → HasOutcome (Ends (EndsInOrder order banks choice net machine timing stimulus))
+    told : IsDecidable (AllDone has.chosen.compiled.image (turn_count timing stimulus) after.1) → HasOutcome (Ends (EndsInOrder order banks choice net machine timing stimulus))
     told (inl all) =
         let o : Outcome = done (to simulation.states (cycle_count stimulus)) in
         outcome_ends (EndsInOrder order banks choice net machine timing stimulus) o (ending o (inl (all, refl))) (λ e. cc)

@@ -18,7 +18,7 @@ use Rattle.yse_compile.proofs.{lemmas.SwitchExists.readers_there, KnownLemmas.li
 use Rattle.yse_compile.proofs.lemmas.{PlanExists.slots_end, PlanExists.tables_counted, SameHomes.before_kept, SamePlans.plan_kept, SamePlans.reader_kept}
 use Rattle.yse_compile.proofs.lemmas.SameTables.{tables_few}
 use Rattle.yse_compile.specs.{declared.choose.Chosen.Chosen, Chosen.HomesFit, Chosen.IsUsed}
-use Rattle.image_check.proofs.lemmas.KnownLemmas.{IsKnown, known_below, known_both, known_same}
+use Rattle.list_laws.proofs.Decidable.{IsDecidable, decide_below, decide_both, decide_same}
 use Rattle.yse_commands.specs.commands.Plan.{IsReportOf, crossings_line, told_of_homes}
 use Rattle.yse_top.proofs.ChoiceLemmas.{HasHomes}
 
@@ -97,12 +97,12 @@ module _ (one other : NodeNet) (there : AreSameItems one other) (back : AreSameI
 -- ---- there are figures
 
 module _ (nodes : NodeNet) (homes : Homes) (formed : IsWellFormed nodes) (are : AreHomes nodes homes) (slots : List ℕ) where
-  receives_known : (port slot : ℕ) → IsKnown (Receives nodes homes slots port slot)
+  receives_known : (port slot : ℕ) → IsDecidable (Receives nodes homes slots port slot)
   receives_known port slot =
-      known_same ((i : ℕ) × (i < length nodes.items) × (IsReader nodes homes i port × (slot_of slots i ≡ slot))) (Receives nodes homes slots port slot)
+      decide_same ((i : ℕ) × (i < length nodes.items) × (IsReader nodes homes i port × (slot_of slots i ≡ slot))) (Receives nodes homes slots port slot)
       (λ some. record { item = some.0; within = some.1; reads = some.2.0; at = some.2.1 }) (λ r. (r.item, r.within, (r.reads, r.at)))
-      (known_below (λ i. IsReader nodes homes i port × (slot_of slots i ≡ slot))
-      (λ i. known_both (IsReader nodes homes i port) (slot_of slots i ≡ slot) (reader_known nodes homes i port) (cases_eq (slot_of slots i) slot)) (length nodes.items))
+      (decide_below (λ i. IsReader nodes homes i port × (slot_of slots i ≡ slot))
+      (λ i. decide_both (IsReader nodes homes i port) (slot_of slots i ≡ slot) (reader_known nodes homes i port) (cases_eq (slot_of slots i) slot)) (length nodes.items))
 
   receipts_counted : (port : ℕ) → (count : ℕ) × Counts (Receives nodes homes slots port) count
   receipts_counted port =

@@ -5,8 +5,7 @@ ghost use Rattle.edge_io.specs.Writing.{Writes};
 ghost use Rattle.refusals.specs.Lines.{column_line, form_line, image_line, match_line, place_line, timing_line};
 
 use crate::lines::{write_line_fault, write_memory_line, write_pieces};
-use crate::piece::write_piece;
-use edge_io::{Sink, WriteNo};
+use edge_io::{Sink, WriteNo, write_piece};
 use image_check::CheckNo;
 use image_file::ImageNo;
 use itoa::Buffer;

@@ -6,10 +6,9 @@ ghost use Rattle.net_defs.specs.Canonical.{name_of};
 ghost use Rattle.refusals.specs.Lines.{byte_line, loop_line, many_words, netlist_line, text_line, twice_line, undriven_line};
 
 use crate::lines::{write_line_fault, write_memory_line, write_pieces};
-use crate::piece::write_piece;
 use bench_read::{BenchNo, Many};
 use bench_text::TextNo;
-use edge_io::{Sink, WriteNo};
+use edge_io::{Sink, WriteNo, write_piece};
 use itoa::Buffer;
 use net_defs::{Netlist, name_of};
 

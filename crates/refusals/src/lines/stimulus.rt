@@ -5,8 +5,7 @@ ghost use Rattle.edge_io.specs.Writing.{Writes};
 ghost use Rattle.refusals.specs.Lines.{cycles_line, lanes_line, many_lanes_line, stimulus_line, width_line};
 
 use crate::lines::{write_line_fault, write_memory_line, write_pieces};
-use crate::piece::write_piece;
-use edge_io::{Sink, WriteNo};
+use edge_io::{Sink, WriteNo, write_piece};
 use itoa::Buffer;
 use limits::LANES;
 use stim_text::{LaneNo, StimNo};

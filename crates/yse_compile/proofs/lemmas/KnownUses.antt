@@ -11,120 +11,120 @@ use Rattle.plan_defs.specs.Readers.{ItemTakes, MemoryTakes, IsUser, IsReader}
 use Rattle.plan_defs.specs.Slots.{slot_of, IsTooEarly, IsHeld, IsHeard, IsBlocked}
 use Rattle.plan_defs.specs.{declared.plan.Homes.Homes, Tables.UsesTable}
 use Rattle.plan_defs.proofs.lemmas.PortLemmas.{reader_port}
-use Rattle.image_check.proofs.lemmas.KnownLemmas.{IsKnown, known_either, known_both, known_same, known_most, known_below, known_contained, known_member}
+use Rattle.list_laws.proofs.Decidable.{IsDecidable, decide_either, decide_both, decide_same, decide_most, decide_below, decide_contained, decide_member}
 
 -- ---- operands
 
-feed_takes : (feed : Feed) (o : ℕ) → IsKnown (FeedTakes feed o)
+feed_takes : (feed : Feed) (o : ℕ) → IsDecidable (FeedTakes feed o)
 feed_takes (From item tag) o = cases_eq o item
 feed_takes (Fixed value) o = inr (λ is. is)
 
-feed_awaits : (feed : Feed) (o : ℕ) → IsKnown (FeedAwaits feed o)
+feed_awaits : (feed : Feed) (o : ℕ) → IsDecidable (FeedAwaits feed o)
 feed_awaits (From item This) o = cases_eq o item
 feed_awaits (From item Last) o = inr (λ is. is)
 feed_awaits (Fixed value) o = inr (λ is. is)
 
-one_of : (P : Feed → Type 0) → ((feed : Feed) → IsKnown (P feed)) → (feeds : Feeds) → IsKnown (IsOneOf P feeds)
+one_of : (P : Feed → Type 0) → ((feed : Feed) → IsDecidable (P feed)) → (feeds : Feeds) → IsDecidable (IsOneOf P feeds)
 one_of P each feeds =
-    known_either (P feeds.a) (P feeds.b ⊎ (P feeds.c ⊎ P feeds.d)) (each feeds.a)
-    (known_either (P feeds.b) (P feeds.c ⊎ P feeds.d) (each feeds.b)
-    (known_either (P feeds.c) (P feeds.d) (each feeds.c) (each feeds.d)))
+    decide_either (P feeds.a) (P feeds.b ⊎ (P feeds.c ⊎ P feeds.d)) (each feeds.a)
+    (decide_either (P feeds.b) (P feeds.c ⊎ P feeds.d) (each feeds.b)
+    (decide_either (P feeds.c) (P feeds.d) (each feeds.c) (each feeds.d)))
 
-takes_known : (item : Item) (o : ℕ) → IsKnown (Takes item o)
+takes_known : (item : Item) (o : ℕ) → IsDecidable (Takes item o)
 takes_known (Input column) o = inr (λ is. is)
 takes_known (BlockBit block bit) o = inr (λ is. is)
 takes_known (Node table feeds) o = one_of (λ feed. FeedTakes feed o) (λ feed. feed_takes feed o) feeds
 takes_known (Latch op) o = cases_eq o op
 
-awaits_known : (item : Item) (o : ℕ) → IsKnown (Awaits item o)
+awaits_known : (item : Item) (o : ℕ) → IsDecidable (Awaits item o)
 awaits_known (Input column) o = inr (λ is. is)
 awaits_known (BlockBit block bit) o = inr (λ is. is)
 awaits_known (Node table feeds) o = one_of (λ feed. FeedAwaits feed o) (λ feed. feed_awaits feed o) feeds
 awaits_known (Latch op) o = inr (λ is. is)
 
-memory_takes : (block : NodeBlock) (o : ℕ) → IsKnown (BlockTakes block o)
+memory_takes : (block : NodeBlock) (o : ℕ) → IsDecidable (BlockTakes block o)
 memory_takes block o =
-    known_either (o ≡ block.we) (Contains block.address o ⊎ Contains block.word o) (cases_eq o block.we)
-    (known_either (Contains block.address o) (Contains block.word o) (known_contained block.address o) (known_contained block.word o))
+    decide_either (o ≡ block.we) (Contains block.address o ⊎ Contains block.word o) (cases_eq o block.we)
+    (decide_either (Contains block.address o) (Contains block.word o) (decide_contained block.address o) (decide_contained block.word o))
 
 module _ (nodes : NodeNet) (homes : Homes) where
   -- ---- readers
 
-  items_known : (i port : ℕ) → IsKnown (ItemTakes nodes homes i port)
+  items_known : (i port : ℕ) → IsDecidable (ItemTakes nodes homes i port)
   items_known i port =
-      known_same ((k : ℕ) × (item : Item) × (slice_get nodes.items k ≡ Some item) × (Takes item i × (home_of homes k ≡ port))) (ItemTakes nodes homes i port)
+      decide_same ((k : ℕ) × (item : Item) × (slice_get nodes.items k ≡ Some item) × (Takes item i × (home_of homes k ≡ port))) (ItemTakes nodes homes i port)
       (λ some. record { taker = some.0; item = some.1; is = some.2; takes = some.3.0; home = some.3.1 })
       (λ t. (t.taker, t.item, t.is, (t.takes, t.home)))
-      (known_member (λ k item. Takes item i × (home_of homes k ≡ port))
-      (λ k item. known_both (Takes item i) (home_of homes k ≡ port) (takes_known item i) (cases_eq (home_of homes k) port)) nodes.items)
+      (decide_member (λ k item. Takes item i × (home_of homes k ≡ port))
+      (λ k item. decide_both (Takes item i) (home_of homes k ≡ port) (takes_known item i) (cases_eq (home_of homes k) port)) nodes.items)
 
-  memories_known : (i port : ℕ) → IsKnown (MemoryTakes nodes homes i port)
+  memories_known : (i port : ℕ) → IsDecidable (MemoryTakes nodes homes i port)
   memories_known i port =
-      known_same ((k : ℕ) × (block : NodeBlock) × (slice_get nodes.blocks k ≡ Some block) × (BlockTakes block i × (block_home homes k ≡ port))) (MemoryTakes nodes homes i port)
+      decide_same ((k : ℕ) × (block : NodeBlock) × (slice_get nodes.blocks k ≡ Some block) × (BlockTakes block i × (block_home homes k ≡ port))) (MemoryTakes nodes homes i port)
       (λ some. record { memory = some.0; block = some.1; is = some.2; takes = some.3.0; home = some.3.1 })
       (λ t. (t.memory, t.block, t.is, (t.takes, t.home)))
-      (known_member (λ k block. BlockTakes block i × (block_home homes k ≡ port))
-      (λ k block. known_both (BlockTakes block i) (block_home homes k ≡ port) (memory_takes block i) (cases_eq (block_home homes k) port)) nodes.blocks)
+      (decide_member (λ k block. BlockTakes block i × (block_home homes k ≡ port))
+      (λ k block. decide_both (BlockTakes block i) (block_home homes k ≡ port) (memory_takes block i) (cases_eq (block_home homes k) port)) nodes.blocks)
 
-  user_known : (i port : ℕ) → IsKnown (IsUser nodes homes i port)
+  user_known : (i port : ℕ) → IsDecidable (IsUser nodes homes i port)
   user_known i port =
-      known_either (ItemTakes nodes homes i port) (MemoryTakes nodes homes i port ⊎ (Contains nodes.printed i × (port ≡ host_of homes))) (items_known i port)
-      (known_either (MemoryTakes nodes homes i port) (Contains nodes.printed i × (port ≡ host_of homes)) (memories_known i port)
-      (known_both (Contains nodes.printed i) (port ≡ host_of homes) (known_contained nodes.printed i) (cases_eq port (host_of homes))))
+      decide_either (ItemTakes nodes homes i port) (MemoryTakes nodes homes i port ⊎ (Contains nodes.printed i × (port ≡ host_of homes))) (items_known i port)
+      (decide_either (MemoryTakes nodes homes i port) (Contains nodes.printed i × (port ≡ host_of homes)) (memories_known i port)
+      (decide_both (Contains nodes.printed i) (port ≡ host_of homes) (decide_contained nodes.printed i) (cases_eq port (host_of homes))))
 
-  away_known : (i port : ℕ) → IsKnown (port ≡ home_of homes i → ⊥)
+  away_known : (i port : ℕ) → IsDecidable (port ≡ home_of homes i → ⊥)
   away_known i port = elim (cases_eq port (home_of homes i)) [ inl same ↦ inr (λ away. away same) | inr apart ↦ inl apart ]
 
-  pub reader_known : (i port : ℕ) → IsKnown (IsReader nodes homes i port)
+  pub reader_known : (i port : ℕ) → IsDecidable (IsReader nodes homes i port)
   reader_known i port =
-      known_same (IsUser nodes homes i port × (port ≡ home_of homes i → ⊥)) (IsReader nodes homes i port)
+      decide_same (IsUser nodes homes i port × (port ≡ home_of homes i → ⊥)) (IsReader nodes homes i port)
       (λ both. record { user = both.0; away = both.1 }) (λ reads. (reads.user, reads.away))
-      (known_both (IsUser nodes homes i port) (port ≡ home_of homes i → ⊥) (user_known i port) (away_known i port))
+      (decide_both (IsUser nodes homes i port) (port ≡ home_of homes i → ⊥) (user_known i port) (away_known i port))
 
   -- ---- slots
 
   module _ (formed : IsWellFormed nodes) (are : AreHomes nodes homes) (slots : List ℕ) (i s : ℕ) where
     -- an operand that is awaited stands before
-    early_known : IsKnown (IsTooEarly nodes slots i s)
+    early_known : IsDecidable (IsTooEarly nodes slots i s)
     early_known =
-        known_same ((o : ℕ) × (o < i) × ((k : ℕ) × (item : Item) × (slice_get nodes.items k ≡ Some item) × ((k ≡ i) × (Awaits item o × (s ≤ slot_of slots o))))) (IsTooEarly nodes slots i s)
+        decide_same ((o : ℕ) × (o < i) × ((k : ℕ) × (item : Item) × (slice_get nodes.items k ≡ Some item) × ((k ≡ i) × (Awaits item o × (s ≤ slot_of slots o))))) (IsTooEarly nodes slots i s)
         (λ some. record { operand = some.0; item = some.2.1; is = subst (λ k. slice_get nodes.items k ≡ Some some.2.1) some.2.3.0 some.2.2; awaits = some.2.3.1.0; late = some.2.3.1.1 })
         (λ t. (t.operand, formed.awaited i t.operand t.item t.is t.awaits, (i, t.item, t.is, (refl, (t.awaits, t.late)))))
-        (known_below (λ o. (k : ℕ) × (item : Item) × (slice_get nodes.items k ≡ Some item) × ((k ≡ i) × (Awaits item o × (s ≤ slot_of slots o))))
-        (λ o. known_member (λ k item. (k ≡ i) × (Awaits item o × (s ≤ slot_of slots o)))
-        (λ k item. known_both (k ≡ i) (Awaits item o × (s ≤ slot_of slots o)) (cases_eq k i)
-        (known_both (Awaits item o) (s ≤ slot_of slots o) (awaits_known item o) (known_most s (slot_of slots o)))) nodes.items) i)
+        (decide_below (λ o. (k : ℕ) × (item : Item) × (slice_get nodes.items k ≡ Some item) × ((k ≡ i) × (Awaits item o × (s ≤ slot_of slots o))))
+        (λ o. decide_member (λ k item. (k ≡ i) × (Awaits item o × (s ≤ slot_of slots o)))
+        (λ k item. decide_both (k ≡ i) (Awaits item o × (s ≤ slot_of slots o)) (cases_eq k i)
+        (decide_both (Awaits item o) (s ≤ slot_of slots o) (awaits_known item o) (decide_most s (slot_of slots o)))) nodes.items) i)
 
-    held_known : IsKnown (IsHeld homes slots i s)
+    held_known : IsDecidable (IsHeld homes slots i s)
     held_known =
-        known_same ((k : ℕ) × (k < i) × ((home_of homes k ≡ home_of homes i) × (slot_of slots k ≡ s))) (IsHeld homes slots i s)
+        decide_same ((k : ℕ) × (k < i) × ((home_of homes k ≡ home_of homes i) × (slot_of slots k ≡ s))) (IsHeld homes slots i s)
         (λ some. record { holder = some.0; before = some.1; home = some.2.0; slot = some.2.1 })
         (λ held. (held.holder, held.before, (held.home, held.slot)))
-        (known_below (λ k. (home_of homes k ≡ home_of homes i) × (slot_of slots k ≡ s))
-        (λ k. known_both (home_of homes k ≡ home_of homes i) (slot_of slots k ≡ s) (cases_eq (home_of homes k) (home_of homes i)) (cases_eq (slot_of slots k) s)) i)
+        (decide_below (λ k. (home_of homes k ≡ home_of homes i) × (slot_of slots k ≡ s))
+        (λ k. decide_both (home_of homes k ≡ home_of homes i) (slot_of slots k ≡ s) (cases_eq (home_of homes k) (home_of homes i)) (cases_eq (slot_of slots k) s)) i)
 
     -- a common reader is a port
-    shared_known : (k : ℕ) → IsKnown ((r : ℕ) × (r < ports_of homes) × (IsReader nodes homes k r × IsReader nodes homes i r))
-    shared_known k = known_below (λ r. IsReader nodes homes k r × IsReader nodes homes i r)
-        (λ r. known_both (IsReader nodes homes k r) (IsReader nodes homes i r) (reader_known k r) (reader_known i r)) (ports_of homes)
+    shared_known : (k : ℕ) → IsDecidable ((r : ℕ) × (r < ports_of homes) × (IsReader nodes homes k r × IsReader nodes homes i r))
+    shared_known k = decide_below (λ r. IsReader nodes homes k r × IsReader nodes homes i r)
+        (λ r. decide_both (IsReader nodes homes k r) (IsReader nodes homes i r) (reader_known k r) (reader_known i r)) (ports_of homes)
 
-    heard_known : IsKnown (IsHeard nodes homes slots i s)
+    heard_known : IsDecidable (IsHeard nodes homes slots i s)
     heard_known =
-        known_same ((k : ℕ) × (k < i) × ((slot_of slots k ≡ s) × ((r : ℕ) × (r < ports_of homes) × (IsReader nodes homes k r × IsReader nodes homes i r)))) (IsHeard nodes homes slots i s)
+        decide_same ((k : ℕ) × (k < i) × ((slot_of slots k ≡ s) × ((r : ℕ) × (r < ports_of homes) × (IsReader nodes homes k r × IsReader nodes homes i r)))) (IsHeard nodes homes slots i s)
         (λ some. record { sent = some.0; before = some.1; slot = some.2.0; reader = some.2.1.0; reads_sent = some.2.1.2.0; reads = some.2.1.2.1 })
         (λ received_before. (received_before.sent, received_before.before, (received_before.slot, (received_before.reader, (reader_port nodes homes i received_before.reader formed are received_before.reads).1, (received_before.reads_sent, received_before.reads)))))
-        (known_below (λ k. (slot_of slots k ≡ s) × ((r : ℕ) × (r < ports_of homes) × (IsReader nodes homes k r × IsReader nodes homes i r)))
-        (λ k. known_both (slot_of slots k ≡ s) ((r : ℕ) × (r < ports_of homes) × (IsReader nodes homes k r × IsReader nodes homes i r)) (cases_eq (slot_of slots k) s) (shared_known k)) i)
+        (decide_below (λ k. (slot_of slots k ≡ s) × ((r : ℕ) × (r < ports_of homes) × (IsReader nodes homes k r × IsReader nodes homes i r)))
+        (λ k. decide_both (slot_of slots k ≡ s) ((r : ℕ) × (r < ports_of homes) × (IsReader nodes homes k r × IsReader nodes homes i r)) (cases_eq (slot_of slots k) s) (shared_known k)) i)
 
-    pub blocked_known : IsKnown (IsBlocked nodes homes slots i s)
+    pub blocked_known : IsDecidable (IsBlocked nodes homes slots i s)
     blocked_known =
-        known_either (IsTooEarly nodes slots i s) (IsHeld homes slots i s ⊎ IsHeard nodes homes slots i s) early_known
-        (known_either (IsHeld homes slots i s) (IsHeard nodes homes slots i s) held_known heard_known)
+        decide_either (IsTooEarly nodes slots i s) (IsHeld homes slots i s ⊎ IsHeard nodes homes slots i s) early_known
+        (decide_either (IsHeld homes slots i s) (IsHeard nodes homes slots i s) held_known heard_known)
 
   -- ---- tables
 
   -- the item is a node with this table
-  node_known : (item : Item) (t : ℕ) → IsKnown ((feeds : Feeds) × (item ≡ Node t feeds))
+  node_known : (item : Item) (t : ℕ) → IsDecidable ((feeds : Feeds) × (item ≡ Node t feeds))
   node_known (Input column) t = inr (λ is. other column is.0 is.1) where
     other : (c : ℕ) (feeds : Feeds) → Input c ≡ Node t feeds → ⊥
     other c feeds same = cc
@@ -141,10 +141,10 @@ module _ (nodes : NodeNet) (homes : Homes) where
     table_of : (u : ℕ) (f g : Feeds) → Node u f ≡ Node t g → u ≡ t
     table_of u f g same = cc
 
-  pub table_known : (port t : ℕ) → IsKnown (UsesTable nodes homes port t)
+  pub table_known : (port t : ℕ) → IsDecidable (UsesTable nodes homes port t)
   table_known port t =
-      known_same ((k : ℕ) × (item : Item) × (slice_get nodes.items k ≡ Some item) × (((feeds : Feeds) × (item ≡ Node t feeds)) × (home_of homes k ≡ port))) (UsesTable nodes homes port t)
+      decide_same ((k : ℕ) × (item : Item) × (slice_get nodes.items k ≡ Some item) × (((feeds : Feeds) × (item ≡ Node t feeds)) × (home_of homes k ≡ port))) (UsesTable nodes homes port t)
       (λ some. record { node = some.0; feeds = some.3.0.0; is = some.2 ∙ ap Some some.3.0.1; home = some.3.1 })
       (λ u. (u.node, Node t u.feeds, u.is, ((u.feeds, refl), u.home)))
-      (known_member (λ k item. ((feeds : Feeds) × (item ≡ Node t feeds)) × (home_of homes k ≡ port))
-      (λ k item. known_both ((feeds : Feeds) × (item ≡ Node t feeds)) (home_of homes k ≡ port) (node_known item t) (cases_eq (home_of homes k) port)) nodes.items)
+      (decide_member (λ k item. ((feeds : Feeds) × (item ≡ Node t feeds)) × (home_of homes k ≡ port))
+      (λ k item. decide_both ((feeds : Feeds) × (item ≡ Node t feeds)) (home_of homes k ≡ port) (node_known item t) (cases_eq (home_of homes k) port)) nodes.items)

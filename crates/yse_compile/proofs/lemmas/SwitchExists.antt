@@ -11,12 +11,12 @@ use Rattle.plan_defs.specs.Slots.{slot_of, IsFirstFitPlan}
 use Rattle.plan_defs.proofs.{ListLemmas.listed_all, lemmas.PlanLemmas.one_at_home, lemmas.PlanLemmas.one_received, lemmas.PortLemmas.reader_port}
 use Rattle.switch_set.specs.Links.{IsSlotList}
 use Rattle.switch_set.proofs.lemmas.ListLemmas.{listed_none, listed_same, listed_more}
-use Rattle.image_check.proofs.lemmas.KnownLemmas.{IsKnown, known_both, known_same, known_less, known_below}
+use Rattle.list_laws.proofs.Decidable.{IsDecidable, decide_both, decide_same, decide_less, decide_below}
 use Rattle.yse_compile.proofs.{KnownLemmas.listed_to, lemmas.KnownUses.reader_known, lemmas.PlanExists.slots_end}
 
 -- items of which no two have one slot have a list in slot order
 module _ {T : Type 0} (slot : T → ℕ) (IsOf : ℕ → T → Type 0) (IsIn : ℕ → Type 0) (slots : List ℕ) (count : ℕ)
-    (known : (i : ℕ) → IsKnown (IsIn i)) (low : (i : ℕ) → IsIn i → i < count)
+    (known : (i : ℕ) → IsDecidable (IsIn i)) (low : (i : ℕ) → IsIn i → i < count)
     (some : (i : ℕ) → IsIn i → (x : T) × IsOf i x) (placed : (i : ℕ) (x : T) → IsOf i x → slot x ≡ slot_of slots i)
     (one : (i j : ℕ) → IsIn i → IsIn j → slot_of slots i ≡ slot_of slots j → i ≡ j) where
   -- those of a slot below the end
@@ -25,10 +25,10 @@ module _ {T : Type 0} (slot : T → ℕ) (IsOf : ℕ → T → Type 0) (IsIn : �
 
   -- one of this slot, or none
   abbrev IsThere : ℕ → Type 0
-  IsThere s = IsKnown ((i : ℕ) × (i < count) × (IsIn i × (slot_of slots i ≡ s)))
+  IsThere s = IsDecidable ((i : ℕ) × (i < count) × (IsIn i × (slot_of slots i ≡ s)))
 
   there : (s : ℕ) → IsThere s
-  there s = known_below (λ i. IsIn i × (slot_of slots i ≡ s)) (λ i. known_both (IsIn i) (slot_of slots i ≡ s) (known i) (cases_eq (slot_of slots i) s)) count
+  there s = decide_below (λ i. IsIn i × (slot_of slots i ≡ s)) (λ i. decide_both (IsIn i) (slot_of slots i ≡ s) (known i) (cases_eq (slot_of slots i) s)) count
 
   below_next : (s : ℕ) (list : List T) → IsSlotList slot IsOf (IsBelow s) list → IsThere s → (longer : List T) × IsSlotList slot IsOf (IsBelow (s + 1)) longer
   below_next s list listed (inr none) = (
@@ -74,14 +74,14 @@ readers_there nodes homes formed are i =
 module _ (nodes : NodeNet) (homes : Homes) (plan : Plan) (formed : IsWellFormed nodes) (are : AreHomes nodes homes) (fit : IsFirstFitPlan nodes homes plan) where
   -- ---- sends
 
-  sent_known : (port i : ℕ) → IsKnown (IsSent nodes homes port i)
+  sent_known : (port i : ℕ) → IsDecidable (IsSent nodes homes port i)
   sent_known port i =
-      known_same ((i < length nodes.items) × ((home_of homes i ≡ port) × ((r : ℕ) × (r < ports_of homes) × IsReader nodes homes i r))) (IsSent nodes homes port i)
+      decide_same ((i < length nodes.items) × ((home_of homes i ≡ port) × ((r : ℕ) × (r < ports_of homes) × IsReader nodes homes i r))) (IsSent nodes homes port i)
       (λ is. record { within = is.0; home = is.1.0; reader = is.1.1.0; reads = is.1.1.2 })
       (λ sent. (sent.within, (sent.home, (sent.reader, (reader_port nodes homes i sent.reader formed are sent.reads).1, sent.reads))))
-      (known_both (i < length nodes.items) ((home_of homes i ≡ port) × ((r : ℕ) × (r < ports_of homes) × IsReader nodes homes i r)) (known_less i (length nodes.items))
-      (known_both (home_of homes i ≡ port) ((r : ℕ) × (r < ports_of homes) × IsReader nodes homes i r) (cases_eq (home_of homes i) port)
-      (known_below (IsReader nodes homes i) (reader_known nodes homes i) (ports_of homes))))
+      (decide_both (i < length nodes.items) ((home_of homes i ≡ port) × ((r : ℕ) × (r < ports_of homes) × IsReader nodes homes i r)) (decide_less i (length nodes.items))
+      (decide_both (home_of homes i ≡ port) ((r : ℕ) × (r < ports_of homes) × IsReader nodes homes i r) (cases_eq (home_of homes i) port)
+      (decide_below (IsReader nodes homes i) (reader_known nodes homes i) (ports_of homes))))
 
   sends_listed : (port : ℕ) → (sends : List Sending) × IsSlotList (λ (sending : Sending). sending.slot) (IsSendingOf nodes homes plan.slots) (IsSent nodes homes port) sends
   sends_listed port =
@@ -102,7 +102,7 @@ module _ (nodes : NodeNet) (homes : Homes) (plan : Plan) (formed : IsWellFormed 
   receipts_listed : (port : ℕ) → (receipts : List Receipt) × IsSlotList (λ (receipt : Receipt). receipt.slot) (IsReceiptOf homes plan.slots) (IsReceived port) receipts
   receipts_listed port =
       listed_by_slot (λ (receipt : Receipt). receipt.slot) (IsReceiptOf homes plan.slots) (IsReceived port) plan.slots (length nodes.items)
-      (λ i. known_both (i < length nodes.items) (IsReader nodes homes i port) (known_less i (length nodes.items)) (reader_known nodes homes i port)) (λ i is. is.0)
+      (λ i. decide_both (i < length nodes.items) (IsReader nodes homes i port) (decide_less i (length nodes.items)) (reader_known nodes homes i port)) (λ i is. is.0)
       (λ i is. (record { slot = slot_of plan.slots i; sender = home_of homes i }, record { slot = refl; sender = refl }))
       (λ i receipt of. of.slot)
       (λ i j is other same. one_received nodes homes plan.slots (length nodes.items) fit.slots i j port is.0 other.0 is.1 other.1 same)
