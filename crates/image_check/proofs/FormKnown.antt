@@ -95,8 +95,13 @@ module _ (image : Image) (p : ℕ) where
       let Others = Each (λ r. r ≢ p) link.readers in
       let Received = Each (λ r. ReceivesFrom image r link.slot p) link.readers in
       decide_same (Stands (item_slots port.work) link.slot × ((1 ≤ length link.readers) × (IsStrictlyIncreasing link.readers × (Others × Received)))) (IsLinkOut image p port link) (λ all. search) (λ is. search)
-      (search (decided, stands_known cases_eq (item_slots port.work) link.slot, rising_known link.readers,
-      each_known (λ r. r ≢ p) (λ r. decide_not (r ≡ p) (cases_eq r p)) link.readers, each_known (λ r. ReceivesFrom image r link.slot p) (λ r. receives_known r link.slot) link.readers))
+      (search (
+        decided,
+        stands_known cases_eq (item_slots port.work) link.slot,
+        rising_known link.readers,
+        each_known (λ r. r ≢ p) (λ r. decide_not (r ≡ p) (cases_eq r p)) link.readers,
+        each_known (λ r. ReceivesFrom image r link.slot p) (λ r. receives_known r link.slot) link.readers,
+      ))
 
   link_in_known : (link : LinkIn) → IsDecidable (IsLinkIn image p link)
   link_in_known link =
@@ -120,8 +125,15 @@ module _ (image : Image) (p : ℕ) where
       let Sends = Each (IsLinkOut image p port) port.outs in
       let Receives = Each (IsLinkIn image p) port.ins in
       decide_same (Items × (Ins × (IsWork image.columns port port.work × (IsStrictlyIncreasing (out_slots port.outs) × (Sends × Receives))))) (IsPortImage image p port) (λ all. search) (λ is. search)
-      (search (decided, slots_known (item_slots port.work), slots_known (in_slots port.ins), work_known port image.columns port.work, rising_known (out_slots port.outs),
-      each_known (IsLinkOut image p port) (link_out_known port) port.outs, each_known (IsLinkIn image p) link_in_known port.ins))
+      (search (
+        decided,
+        slots_known (item_slots port.work),
+        slots_known (in_slots port.ins),
+        work_known port image.columns port.work,
+        rising_known (out_slots port.outs),
+        each_known (IsLinkOut image p port) (link_out_known port) port.outs,
+        each_known (IsLinkIn image p) link_in_known port.ins,
+      ))
 
 -- ---- the whole image
 
@@ -140,5 +152,8 @@ form_known image =
     let Ports = (p : ℕ) (port : PortImage) → IsPort image p port → IsPortImage image p port in
     let Last = (p : ℕ) (port : PortImage) → IsPort image p port → IsHost port.work ↔ (p + 1 ≡ length image.ports) in
     decide_same ((image.slots ≤ MAX_SLOTS) × (Units × (Count × (Ports × Last)))) (IsWellFormed image) (λ all. search) (λ is. search)
-    (search (decided, decide_each (λ p port. IsPortImage image p port) (λ p port. port_known image p port) image.ports,
-    decide_each (λ p port. IsHost port.work ↔ (p + 1 ≡ length image.ports)) (λ p port. last_known port.work p (length image.ports)) image.ports))
+    (search (
+      decided,
+      decide_each (λ p port. IsPortImage image p port) (λ p port. port_known image p port) image.ports,
+      decide_each (λ p port. IsHost port.work ↔ (p + 1 ≡ length image.ports)) (λ p port. last_known port.work p (length image.ports)) image.ports,
+    ))

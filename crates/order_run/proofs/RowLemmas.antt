@@ -8,13 +8,6 @@ use Rattle.image_defs.specs.{declared.image.Image.Image, Frames.shown}
 use Rattle.port_host.specs.Rows.{printed_sources}
 use Rattle.machine_run.specs.Shown.{AreShown}
 
-pub shown_none : (image : Image) (stimulus : Stimulus) → AreShown image stimulus 0 []
-shown_none image stimulus = record {
-  cycles_are = refl;
-  width = λ c row at. (let low = slice_get_within {A = CellRow} [] c row at in absurd (omega (arith, low)));
-  cells = λ c j row at low. (let past = slice_get_within {A = CellRow} [] c row at in absurd (omega (arith, past)));
-}
-
 -- the row of one more cycle
 pub shown_more : (image : Image) (stimulus : Stimulus) (n : ℕ) (rows : List CellRow) (cells : List V4) → AreShown image stimulus n rows → length cells ≡ length (printed_sources image)
     → ((j : ℕ) → j < length cells → value_at cells j ≡ shown image stimulus (n + 1) j) → AreShown image stimulus (n + 1) (rows ++ record { cells = cells } ∷ [])

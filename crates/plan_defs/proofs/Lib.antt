@@ -3,3 +3,4 @@ pub mod ListLemmas
 pub mod PutLemmas
 pub mod ReaderLemmas
 pub mod UserLemmas
+mod WordLemmas

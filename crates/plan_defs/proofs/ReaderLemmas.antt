@@ -1,20 +1,11 @@
 -- Readers that are listed one item after another.
-use Rattle.std.proofs.Common.{◌≡◌, ◌≢◌, ◌∙◌, ◌↔◌, inl, inr, ℕ, ◌+◌, ◌-◌, ◌*◌, ◌<◌, ◌≤◌, List, [], ◌∷◌, ◌++◌, length, get_or, sym, ap, subst, arith, Some, slice_get}
-use Rattle.std.proofs.lemmas.{Nat.Bits.bit_at-zero, Option.slice_get_within, Option.get_or_from_slice_get, Option.slice_get-get_or}
+use Rattle.std.proofs.Common.{◌≡◌, ◌≢◌, ◌∙◌, inl, inr, ℕ, List, [], ◌∷◌, ◌++◌, length, get_or, sym, ap, subst, arith, Some, slice_get}
+use Rattle.std.proofs.lemmas.{Option.slice_get_within, Option.get_or_from_slice_get, Option.slice_get-get_or}
 use Rattle.std.proofs.{lemmas.List.get_or_append_left, lemmas.List.length-append, Math.Seq.get_or-append_seam}
-use Rattle.std.specs.Int.{bit_at}
 use Rattle.list_laws.proofs.Ranges.{last_or}
 use Rattle.plan_defs.specs.{declared.bit_rows.BitRows.BitRows, Bits.HasBit, declared.plan.Homes.Homes, Homes.home_of, Lists.Lists, Readers.IsReaderList}
 use Rattle.plan_defs.specs.code.UserRows.{AreUsers}
 use Rattle.node_defs.specs.declared.items.NodeNet.{NodeNet}
-
--- a word that is 0 has none of its bits
-pub word_none : (rows : BitRows) (row w word : ℕ) → word ≡ 0 → ((b : ℕ) → b < 64 → (bit_at word b ≡ 1) ↔ HasBit rows row (64 * w + b)) → (m : ℕ) → 64 * w ≤ m → m < 64 * w + 64 → HasBit rows row m → ⊥
-word_none rows row w word is bits m from low has =
-    let place : m ≡ 64 * w + (m - 64 * w) = omega (arith, from) in
-    let set : bit_at word (m - 64 * w) ≡ 1 = (bits (m - 64 * w) (omega (arith, from, low))).1 (subst (HasBit rows row) place has) in
-    let unset : bit_at word (m - 64 * w) ≡ 0 = ap (λ n. bit_at n (m - 64 * w)) is ∙ bit_at-zero (m - 64 * w) in
-    omega (arith, set, unset)
 
 -- the ports of an item's row but for its home are its readers
 readers_are : (nodes : NodeNet) (homes : Homes) (users : BitRows) (i home : ℕ) (list : List ℕ) → AreUsers nodes homes users → home ≡ home_of homes i → Lists (λ port. HasBit users i port × (port ≢ home)) list → IsReaderList nodes homes i list

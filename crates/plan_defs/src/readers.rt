@@ -1,7 +1,7 @@
 //! The ports that read each item.
 
-ghost use Rattle.std.specs.Prelude.{◌≡◌, ◌≢◌, ◌+◌, ◌*◌, ◌<◌, ◌≤◌, ◌∷◌, ◌++◌, IfOk, OnOk, length, Some, slice_get, slice_index_or};
-ghost use Rattle.plan_defs.specs.{Bits.HasBit, Homes.AreHomes, Lists.Lists, code.Lists.ListsBelow};
+ghost use Rattle.std.specs.Prelude.{◌≡◌, ◌≢◌, ◌+◌, ◌*◌, ◌<◌, ◌≤◌, [], ◌∷◌, ◌++◌, IfOk, IfSome, IsNone, OnOk, length, Some, slice_get, slice_index_or};
+ghost use Rattle.plan_defs.specs.{Bits.HasBit, Homes.AreHomes, Lists.Lists, code.Lists.ListsBelow, code.Words.IsNextBit, code.Words.HasNoBit};
 ghost use Rattle.node_defs.specs.WellFormed.{IsWellFormed};
 
 use crate::BitRows;
@@ -73,31 +73,36 @@ fn push_word(
     ensures { OnOk result (ListsBelow (λ port. HasBit rows.now item port × (port ≢ home)) (64 * w + 64) ports.new) }
 {
     let word = rows.word(item, w);
-    if word == 0 {
-        return Ok(());
-    }
-    'bits: for bit in 0..64usize {
-        push_port(ports, rows, item, (64 * w + bit) as u32, home)?;
+    let mut from = 0;
+    'bits: while let Some(bit) = next_bit(word, from) {
+        push_other(ports, 64 * w as u32 + bit, home)?;
+        from = bit + 1;
     }
     Ok(())
 }
 
-/// Adds the port if an item's row has it and it is not the home.
-fn push_port(
-    ports: &mut List<u32>,
-    rows: &BitRows,
-    item: usize,
-    port: u32,
-    home: u32,
-) -> Result<(), Memory>
-    requires room { item * rows.now.stride + rows.now.stride ≤ length rows.now.words }
-    requires before { ListsBelow (λ p. HasBit rows.now item p × (p ≢ home)) port ports.old }
-    ensures { OnOk result (ListsBelow (λ p. HasBit rows.now item p × (p ≢ home)) (port + 1) ports.new) }
+/// The first bit from `from` on that is set.
+fn next_bit(word: u64, from: u32) -> Option<u32>
+    ensures some { IfSome result (IsNextBit word from) }
+    ensures none { IsNone result → HasNoBit word from }
 {
-    if port != home && rows.has(item, port as usize) {
-        ports.push(port)?;
-        Ok(())
-    } else {
-        Ok(())
+    if from >= 64 {
+        return None;
     }
+    let rest = word >> from;
+    if rest == 0 {
+        return None;
+    }
+    Some(from + rest.trailing_zeros())
+}
+
+/// Adds a port if it is not the home.
+fn push_other(ports: &mut List<u32>, port: u32, home: u32) -> Result<(), Memory>
+    ensures away { port ≢ home → OnOk result (ports.new ≡ ports.old ++ port ∷ []) }
+    ensures home { port ≡ home → OnOk result (ports.new ≡ ports.old) }
+{
+    if port == home {
+        return Ok(());
+    }
+    ports.push(port)
 }

@@ -64,24 +64,6 @@ module _ {W S : Type 0} (lanes : ℕ) (some : 0 < lanes) (lane : W → ℕ → V
     each = λ l low. plain.kept_new (lane_bank lane stimulus l view edge places) fits (valid l low) turn begun at_edge executed received (blank.each l low);
   }
 
-  pub kept_begun : (view : View S) (edge : Bool) (places : Turns W) → IsKept lanes lane stimulus view edge places → InEach lanes (λ l. CanBegin (lane_port stimulus l view))
-      → IsKept lanes lane stimulus (after_begin view) edge places
-  kept_begun view edge places kept can = record {
-    count = kept.count;
-    each = λ l low. let one = kept.each l low in record {
-      image = one.image;
-      stimulus = one.stimulus;
-      first = one.first;
-      until = one.until;
-      running = λ begun. (lane_lemmas.in_lane lanes (λ l. CanBegin (lane_port stimulus l view)) can l low).more;
-      edge = one.edge;
-      this_room = one.this_room;
-      past_room = one.past_room;
-      this = one.this;
-      past = one.past;
-    };
-  }
-
   pub kept_executed : (view : View S) (edge : Bool) (old new : Turns W) (slot : ℕ) (w : W) → IsKept lanes lane stimulus view edge old → InEach lanes (λ l. CanExecute (lane_port stimulus l view) slot)
       → InEach lanes (λ l. lane w l ≡ value_in (lane_port stimulus l view) slot) → count new ≡ count old
       → ((l : ℕ) → l < lanes → in_lane lane l new ≡ record (in_lane lane l old) { this = set (in_lane lane l old).this slot (lane w l) }) → IsKept lanes lane stimulus (after_execute view) edge new

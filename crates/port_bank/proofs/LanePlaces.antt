@@ -51,16 +51,6 @@ module _ {W : Type 0} (lane : W → ℕ → V4) where
   undefined_lane l zero w is = refl
   undefined_lane l (suc n) w is = ap₂ (λ x xs. x ∷ xs) is (undefined_lane l n w is)
 
-  -- a word that has the value in each lane is added twice
-  pub added_twice : (lanes : ℕ) (v : V4) (w : W) (old new : List W) → ((l : ℕ) → l < lanes → lane w l ≡ v) → new ≡ (old ++ w ∷ []) ++ w ∷ [] → AddsTwice lanes lane v old new
-  added_twice lanes v w old new is made l low =
-      ap (lane_values lane l) made ∙ map-append (λ w. lane w l) (old ++ w ∷ []) (w ∷ []) ∙ ap₂ (λ xs x. xs ++ x ∷ []) (map-append (λ w. lane w l) old (w ∷ [])) (is l low)
-      ∙ ap (λ x. (lane_values lane l old ++ x ∷ []) ++ v ∷ []) (is l low) ∙ both (lane_values lane l old)
-    where
-      both : (xs : List V4) → (xs ++ v ∷ []) ++ v ∷ [] ≡ xs ++ twice v
-      both [] = refl
-      both (x ∷ xs) = ap (λ ys. x ∷ ys) (both xs)
-
   -- the words before the first turn
   pub blank_right : (lanes slots : ℕ) (w : W) (flat a b c d : List W) → 0 < lanes → ((l : ℕ) → l < lanes → lane w l ≡ Undef) → flat ≡ replicate (4 * slots) w → AddsTwice lanes lane Zero flat a → AddsTwice lanes lane One a b
       → AddsTwice lanes lane Undef b c → AddsTwice lanes lane HighZ c d → AreBlank lanes lane slots (record { flat = d; second = false })

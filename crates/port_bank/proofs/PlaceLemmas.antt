@@ -169,9 +169,6 @@ constant_at j (suc (suc number)) low few = absurd (omega (arith, few))
 pub length_flat : (slots : ℕ) → length (flat_blank slots) ≡ 4 * slots + 8
 length_flat slots = length-append (replicate (4 * slots) Undef) doubled ∙ ap (λ n. n + 8) (length-replicate (4 * slots) Undef)
 
-pub even_blank : (slots : ℕ) → IsEven (flat_blank slots)
-even_blank slots = omega (arith, length_flat slots)
-
 pub half_blank : (slots number : ℕ) → number < 2 → half (flat_blank slots) number ≡ blank slots
 half_blank slots number few =
     ext_get_or Undef _ _ (count ∙ sym count')

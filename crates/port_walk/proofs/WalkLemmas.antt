@@ -145,14 +145,6 @@ module _ {W P F S : Type 0} (m : word.Ghosts W P F S) {a : Parts W S} (kept : Is
   within_at : a.at < length a.stops
   within_at = omega (arith, kept.stops.count, kept.at, kept.sent, kept.took, out_length, in_length)
 
-  -- so many stops have few numbers
-  pub few_at : a.at ≤ 2 * MAX_SLOTS
-  few_at =
-      let sends = few_sends a.view.image kept.image a.view.port a.port_image kept.port_image in
-      let receipts = places_few a.view.image.slots ins (in_places a.view.image a.view.port a.port_image good) in
-      let slots = kept.image.slots in
-      omega (arith, kept.at, kept.sent, kept.took, in_length)
-
   -- the stop at which it stands
   pub found : (stops : List Stop) → stops ≡ a.stops → slice_get a.stops a.at ≡ Some (get_or stops a.at no_stop)
   found stops same = slice_get-get_or a.stops a.at no_stop within_at ∙ ap (λ xs. Some (get_or xs a.at no_stop)) (sym same)

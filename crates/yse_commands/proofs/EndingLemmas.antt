@@ -36,10 +36,6 @@ module _ {E : Type 0} (taken : E → Option (List ℕ)) (faults : E → ℕ) whe
   told_line (output.Lanes run) old new told = quiet old new told
   told_line (output.Lines lines) old new told = quiet old new told
 
-  pub told_nothing : (ending : Option Ending) (old new : E) → status_after ending ≡ status.Done → IsTold old new (taken old) (taken new) (faults old) (faults new) ending → new ≡ old
-  told_nothing None old new is told = told
-  told_nothing (Some ending) old new is told = cc
-
 pub may_write : (ending : Option Ending) → MayWrite (status_after ending)
 may_write None = tt
 may_write (Some ending) = tt

@@ -18,7 +18,7 @@ use Rattle.plan_defs.proofs.lemmas.PlanLemmas.{one_at_home}
 use Rattle.image_defs.specs.declared.image.{Task.Task, Task.TheVariants.Eval, Task.TheVariants.Hold, BlockWork.BlockWork, InColumn.InColumn, Work.Work}
 use Rattle.image_defs.specs.declared.image.{Work.TheVariants.Logic, Work.TheVariants.Array, Work.TheVariants.Host, PortImage.PortImage, Image.Image}
 use Rattle.image_defs.specs.{Places.Each, Matches.claims_of, declared.file.Claims.Claims, declared.file.PortClaims.PortClaims, Claimed.lists_of}
-use Rattle.list_laws.proofs.Decidable.{decide_both, decide_less, decide_member}
+use Rattle.list_laws.proofs.Decidable.{decided, decide_member}
 use Rattle.image_check.proofs.lemmas.MatchKnown.{alike_known}
 use Rattle.image_file.specs.Ranges.{tables_of}
 use Rattle.image_build.specs.Built.{ArePortMemories, IsBuilt, link_in, link_out}
@@ -37,7 +37,7 @@ module _ {nodes : NodeNet} {homes : Homes} {plan : Plan} (planned : IsPlanned no
   items_there : (p : ℕ) → (items : List ℕ) × ArePortItems nodes homes plan.slots p items
   items_there p =
       listed_by_slot (slot_of plan.slots) (λ i x. x ≡ i) (IsAt nodes homes p) plan.slots (length nodes.items)
-      (λ i. decide_both (i < length nodes.items) (home_of homes i ≡ p) (decide_less i (length nodes.items)) (cases_eq (home_of homes i) p)) (λ i at. at.0)
+      (λ i. search decided) (λ i at. at.0)
       (λ i at. (i, refl)) (λ i x is. ap (slot_of plan.slots) is)
       (λ i j at other same. one_at_home nodes homes plan.slots (length nodes.items) planned.first_fit.slots i j at.0 other.0 (at.1 ∙ sym other.1) same)
 

@@ -9,13 +9,13 @@ use Rattle.net_defs.specs.declared.timing.{Init.Init, Init.TheVariants.Undef, In
 use Rattle.node_defs.specs.declared.items.{Tag.TheVariants.This, Tag.TheVariants.Last, Feed.Feed, Feed.TheVariants.From, Feed.TheVariants.Fixed, Item.Item}
 use Rattle.node_defs.specs.{declared.items.NodeBlock.NodeBlock, declared.items.NodeNet.NodeNet, WellFormed.column_count}
 use Rattle.node_defs.specs.declared.items.Item.TheVariants as item
-use Rattle.image_defs.specs.Places.{IsPort, item_slots, printed_of, sender_in, host_of}
-use Rattle.image_defs.specs.Matches.{IsClaim, ClaimsIn, Carries, CarryAll, MemoryImplements, TaskImplements, BitImplements, InputImplements, Implements, ImplementsClaim, claims_of, is_last}
+use Rattle.image_defs.specs.Places.{IsPort, item_slots, printed_of, host_of}
+use Rattle.image_defs.specs.Matches.{IsClaim, ClaimsIn, Carries, CarryAll, MemoryImplements, TaskImplements, BitImplements, InputImplements, Implements, ImplementsClaim, claims_of}
 use Rattle.image_defs.specs.declared.image.{Source.Source, Source.TheVariants.Own, Source.TheVariants.Got, Source.TheVariants.Const, Task.Task}
 use Rattle.image_defs.specs.declared.image.{Task.TheVariants.Eval, Task.TheVariants.Hold, BlockWork.BlockWork, OutBit.OutBit, InColumn.InColumn, Work.Work}
 use Rattle.image_defs.specs.declared.image.{Work.TheVariants.Logic, Work.TheVariants.Array, Work.TheVariants.Host, LinkIn.LinkIn, PortImage.PortImage}
 use Rattle.image_defs.specs.{declared.image.Image.Image, Claimed.HasTiming, Claimed.PlaceMatches, Claimed.ColumnMatches}
-use Rattle.list_laws.proofs.Decidable.{IsDecidable, decide_both, decide_then, decide_same, decide_bool, decide_some, decide_any, decide_is, decide_all, decide_member, decide_each}
+use Rattle.list_laws.proofs.Decidable.{IsDecidable, decided, decide_both, decide_then, decide_same, decide_some, decide_any, decide_is, decide_all, decide_member, decide_each}
 
 -- ---- values and tables
 
@@ -42,10 +42,9 @@ module _ (image : Image) (claims : List (List ℕ)) (nodes : NodeNet) where
 
   module _ (p : ℕ) (ins : List LinkIn) where
     carries_known : (source : Source) (feed : Feed) → IsDecidable (Carries image claims p ins source feed)
-    carries_known (Own slot last) (From x tag) = decide_both (ClaimsIn image claims p slot x) (last ≡ is_last tag) (claims_known p slot x) (decide_bool last (is_last tag))
+    carries_known (Own slot last) (From x tag) = search (decided, claims_known)
     carries_known (Own slot last) (Fixed w) = inr (λ is. is)
-    carries_known (Got slot last) (From x tag) =
-        decide_both (ClaimsIn image claims (sender_in ins slot) slot x) (last ≡ is_last tag) (claims_known (sender_in ins slot) slot x) (decide_bool last (is_last tag))
+    carries_known (Got slot last) (From x tag) = search (decided, claims_known)
     carries_known (Got slot last) (Fixed w) = inr (λ is. is)
     carries_known (Const v) (From x tag) = inr (λ is. is)
     carries_known (Const v) (Fixed w) = value_known v w
@@ -56,30 +55,22 @@ module _ (image : Image) (claims : List (List ℕ)) (nodes : NodeNet) where
         decide_same ((length sources ≡ length items) × All) (CarryAll image claims p ins sources items)
         (λ both. record { as_many = both.0; each = λ k x source at there. both.1 k source at x there })
         (λ is. (is.as_many, λ k source at x there. is.each k x source at there))
-        (decide_both (length sources ≡ length items) All (cases_eq (length sources) (length items))
-        (decide_each (λ k source. (x : ℕ) → slice_get items k ≡ Some x → Carries image claims p ins source (From x Last))
-        (λ k source. decide_any (λ x. Carries image claims p ins source (From x Last)) (λ x. carries_known source (From x Last)) (slice_get items k)) sources))
+        (search (
+          decided,
+          decide_each (λ k source. (x : ℕ) → slice_get items k ≡ Some x → Carries image claims p ins source (From x Last))
+              (λ k source. decide_any (λ x. Carries image claims p ins source (From x Last)) (λ x. carries_known source (From x Last)) (slice_get items k)) sources,
+        ))
 
     memory_known : (block : BlockWork) (memory : NodeBlock) → IsDecidable (MemoryImplements image claims p ins block memory)
     memory_known block memory =
-        let We = Carries image claims p ins block.we (From memory.we Last) in
-        let Address = CarryAll image claims p ins block.address memory.address in
-        let Word = CarryAll image claims p ins block.word memory.word in
-        decide_same (We × (Address × Word)) (MemoryImplements image claims p ins block memory)
-        (λ all. record { we = all.0; address = all.1.0; word = all.1.1 }) (λ is. (is.we, (is.address, is.word)))
-        (decide_both We (Address × Word) (carries_known block.we (From memory.we Last)) (decide_both Address Word (carry_known block.address memory.address) (carry_known block.word memory.word)))
+        decide_same (Carries image claims p ins block.we (From memory.we Last) × (CarryAll image claims p ins block.address memory.address × CarryAll image claims p ins block.word memory.word)) (MemoryImplements image claims p ins block memory)
+        (λ all. search) (λ is. search) (search (decided, carries_known, carry_known))
 
     -- ---- what stands in a slot
 
     four_known : (one other : Table) (a b c d : Source) (e f g h : Feed)
         → IsDecidable (AreAlike one other × (Carries image claims p ins a e × (Carries image claims p ins b f × (Carries image claims p ins c g × Carries image claims p ins d h))))
-    four_known one other a b c d e f g h =
-        let A = Carries image claims p ins a e in
-        let B = Carries image claims p ins b f in
-        let C = Carries image claims p ins c g in
-        let D = Carries image claims p ins d h in
-        decide_both (AreAlike one other) (A × (B × (C × D))) (alike_known one other)
-        (decide_both A (B × (C × D)) (carries_known a e) (decide_both B (C × D) (carries_known b f) (decide_both C D (carries_known c g) (carries_known d h))))
+    four_known one other a b c d e f g h = search (decided, alike_known, carries_known)
 
     task_known : (tables : List Table) (task : Task) (i : Item) → IsDecidable (TaskImplements image claims nodes p ins tables task i)
     task_known tables (Eval slot table a b c d) (item.Node t feeds) =
@@ -162,13 +153,10 @@ init_known Zero Zero = inl refl
 
 pub timing_known : (image : Image) (nodes : NodeNet) (timing : Timing) → IsDecidable (HasTiming image nodes timing)
 timing_known image nodes timing =
-    let Units = image.units ≡ timing.units in
-    let Holds = image.init ≡ timing.init in
-    let Columns = image.columns ≡ column_count nodes in
     let Printed = (host : PortImage) → IsPort image (host_of image) host → length (printed_of host.work) ≡ length nodes.printed in
-    decide_same (Units × (Holds × (Columns × Printed))) (HasTiming image nodes timing)
-    (λ all. record { units = all.0; init = all.1.0; columns = all.1.1.0; printed = all.1.1.1 }) (λ is. (is.units, (is.init, (is.columns, is.printed))))
-    (decide_both Units (Holds × (Columns × Printed)) (cases_eq image.units timing.units)
-    (decide_both Holds (Columns × Printed) (init_known image.init timing.init)
-    (decide_both Columns Printed (cases_eq image.columns (column_count nodes))
-    (decide_any (λ host. length (printed_of host.work) ≡ length nodes.printed) (λ host. cases_eq (length (printed_of host.work)) (length nodes.printed)) (slice_get image.ports (host_of image))))))
+    decide_same ((image.units ≡ timing.units) × ((image.init ≡ timing.init) × ((image.columns ≡ column_count nodes) × Printed))) (HasTiming image nodes timing) (λ all. search) (λ is. search)
+    (search (
+      decided,
+      init_known,
+      decide_any (λ host. length (printed_of host.work) ≡ length nodes.printed) (λ host. cases_eq (length (printed_of host.work)) (length nodes.printed)) (slice_get image.ports (host_of image)),
+    ))

@@ -17,8 +17,3 @@ for_each test = test Zero && (test One && (test Undef && test HighZ))
 -- what each passes this one passes
 pub at_value : (test : V4 → Bool) (v : V4) → for_each test ≡ true → test v ≡ true
 at_value test v e = grind arith
-
--- functions of two values that answer all sixteen pairs alike
-pub two_same : (f g : V4 → V4 → V4) → for_each (λ v. for_each (λ w. same (f v w) (g v w))) ≡ true → (v w : V4) → f v w ≡ g v w
-two_same f g test v w =
-    same_true (f v w) (g v w) (at_value (λ w. same (f v w) (g v w)) w (at_value (λ v. for_each (λ w. same (f v w) (g v w))) v test))

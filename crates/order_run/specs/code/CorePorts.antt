@@ -7,17 +7,9 @@ use Rattle.port_host.specs.Rows.{printed_sources}
 use Rattle.port_walk.specs.Placed.{IsNextOf, IsReceiving, IsSending, in_next_turn}
 use Rattle.order_run.specs.declared.core_ports.CorePort.{CorePort}
 
--- core_port number p
-abbrev pub IsCorePortAt : List CorePort → ℕ → CorePort → Type 0
-IsCorePortAt core_ports p core_port = slice_get core_ports p ≡ Some core_port
-
 -- a claim on core_port number p
 abbrev pub AtCorePort : List CorePort → ℕ → (CorePort → Type 0) → Type 0
 AtCorePort core_ports p Claim = (core_port : CorePort) → slice_get core_ports p ≡ Some core_port → Claim core_port
-
--- core_port number p has become this one
-abbrev pub HasNewCorePort : List CorePort → ℕ → CorePort → List CorePort → Type 0
-HasNewCorePort old p core_port new = new ≡ slice_set old p core_port
 
 -- this is the next event of the core_port's port
 pub record IsNextIn (core_port : CorePort) (banks : ℕ) (action : Action) : Type 0 where

@@ -11,7 +11,7 @@ use Rattle.plan_defs.specs.Readers.{ItemTakes, MemoryTakes, IsUser, IsReader}
 use Rattle.plan_defs.specs.Slots.{slot_of, IsTooEarly, IsHeld, IsHeard, IsBlocked}
 use Rattle.plan_defs.specs.{declared.plan.Homes.Homes, Tables.UsesTable}
 use Rattle.plan_defs.proofs.lemmas.PortLemmas.{reader_port}
-use Rattle.list_laws.proofs.Decidable.{IsDecidable, decide_either, decide_both, decide_same, decide_most, decide_below, decide_contained, decide_member}
+use Rattle.list_laws.proofs.Decidable.{IsDecidable, decided, decide_same, decide_below, decide_contained, decide_member}
 
 -- ---- operands
 
@@ -25,10 +25,7 @@ feed_awaits (From item Last) o = inr (λ is. is)
 feed_awaits (Fixed value) o = inr (λ is. is)
 
 one_of : (P : Feed → Type 0) → ((feed : Feed) → IsDecidable (P feed)) → (feeds : Feeds) → IsDecidable (IsOneOf P feeds)
-one_of P each feeds =
-    decide_either (P feeds.a) (P feeds.b ⊎ (P feeds.c ⊎ P feeds.d)) (each feeds.a)
-    (decide_either (P feeds.b) (P feeds.c ⊎ P feeds.d) (each feeds.b)
-    (decide_either (P feeds.c) (P feeds.d) (each feeds.c) (each feeds.d)))
+one_of P each feeds = search (decided, each)
 
 takes_known : (item : Item) (o : ℕ) → IsDecidable (Takes item o)
 takes_known (Input column) o = inr (λ is. is)
@@ -43,9 +40,7 @@ awaits_known (Node table feeds) o = one_of (λ feed. FeedAwaits feed o) (λ feed
 awaits_known (Latch op) o = inr (λ is. is)
 
 memory_takes : (block : NodeBlock) (o : ℕ) → IsDecidable (BlockTakes block o)
-memory_takes block o =
-    decide_either (o ≡ block.we) (Contains block.address o ⊎ Contains block.word o) (cases_eq o block.we)
-    (decide_either (Contains block.address o) (Contains block.word o) (decide_contained block.address o) (decide_contained block.word o))
+memory_takes block o = search (decided, decide_contained)
 
 module _ (nodes : NodeNet) (homes : Homes) where
   -- ---- readers
@@ -56,7 +51,7 @@ module _ (nodes : NodeNet) (homes : Homes) where
       (λ some. record { taker = some.0; item = some.1; is = some.2; takes = some.3.0; home = some.3.1 })
       (λ t. (t.taker, t.item, t.is, (t.takes, t.home)))
       (decide_member (λ k item. Takes item i × (home_of homes k ≡ port))
-      (λ k item. decide_both (Takes item i) (home_of homes k ≡ port) (takes_known item i) (cases_eq (home_of homes k) port)) nodes.items)
+      (λ k item. search (decided, takes_known)) nodes.items)
 
   memories_known : (i port : ℕ) → IsDecidable (MemoryTakes nodes homes i port)
   memories_known i port =
@@ -64,22 +59,15 @@ module _ (nodes : NodeNet) (homes : Homes) where
       (λ some. record { memory = some.0; block = some.1; is = some.2; takes = some.3.0; home = some.3.1 })
       (λ t. (t.memory, t.block, t.is, (t.takes, t.home)))
       (decide_member (λ k block. BlockTakes block i × (block_home homes k ≡ port))
-      (λ k block. decide_both (BlockTakes block i) (block_home homes k ≡ port) (memory_takes block i) (cases_eq (block_home homes k) port)) nodes.blocks)
+      (λ k block. search (decided, memory_takes)) nodes.blocks)
 
   user_known : (i port : ℕ) → IsDecidable (IsUser nodes homes i port)
-  user_known i port =
-      decide_either (ItemTakes nodes homes i port) (MemoryTakes nodes homes i port ⊎ (Contains nodes.printed i × (port ≡ host_of homes))) (items_known i port)
-      (decide_either (MemoryTakes nodes homes i port) (Contains nodes.printed i × (port ≡ host_of homes)) (memories_known i port)
-      (decide_both (Contains nodes.printed i) (port ≡ host_of homes) (decide_contained nodes.printed i) (cases_eq port (host_of homes))))
-
-  away_known : (i port : ℕ) → IsDecidable (port ≡ home_of homes i → ⊥)
-  away_known i port = elim (cases_eq port (home_of homes i)) [ inl same ↦ inr (λ away. away same) | inr apart ↦ inl apart ]
+  user_known i port = search (decided, items_known, memories_known, decide_contained)
 
   pub reader_known : (i port : ℕ) → IsDecidable (IsReader nodes homes i port)
   reader_known i port =
       decide_same (IsUser nodes homes i port × (port ≡ home_of homes i → ⊥)) (IsReader nodes homes i port)
-      (λ both. record { user = both.0; away = both.1 }) (λ reads. (reads.user, reads.away))
-      (decide_both (IsUser nodes homes i port) (port ≡ home_of homes i → ⊥) (user_known i port) (away_known i port))
+      (λ both. search) (λ reads. search) (search (decided, user_known))
 
   -- ---- slots
 
@@ -92,8 +80,7 @@ module _ (nodes : NodeNet) (homes : Homes) where
         (λ t. (t.operand, formed.awaited i t.operand t.item t.is t.awaits, (i, t.item, t.is, (refl, (t.awaits, t.late)))))
         (decide_below (λ o. (k : ℕ) × (item : Item) × (slice_get nodes.items k ≡ Some item) × ((k ≡ i) × (Awaits item o × (s ≤ slot_of slots o))))
         (λ o. decide_member (λ k item. (k ≡ i) × (Awaits item o × (s ≤ slot_of slots o)))
-        (λ k item. decide_both (k ≡ i) (Awaits item o × (s ≤ slot_of slots o)) (cases_eq k i)
-        (decide_both (Awaits item o) (s ≤ slot_of slots o) (awaits_known item o) (decide_most s (slot_of slots o)))) nodes.items) i)
+        (λ k item. search (decided, awaits_known)) nodes.items) i)
 
     held_known : IsDecidable (IsHeld homes slots i s)
     held_known =
@@ -101,12 +88,11 @@ module _ (nodes : NodeNet) (homes : Homes) where
         (λ some. record { holder = some.0; before = some.1; home = some.2.0; slot = some.2.1 })
         (λ held. (held.holder, held.before, (held.home, held.slot)))
         (decide_below (λ k. (home_of homes k ≡ home_of homes i) × (slot_of slots k ≡ s))
-        (λ k. decide_both (home_of homes k ≡ home_of homes i) (slot_of slots k ≡ s) (cases_eq (home_of homes k) (home_of homes i)) (cases_eq (slot_of slots k) s)) i)
+        (λ k. search decided) i)
 
     -- a common reader is a port
     shared_known : (k : ℕ) → IsDecidable ((r : ℕ) × (r < ports_of homes) × (IsReader nodes homes k r × IsReader nodes homes i r))
-    shared_known k = decide_below (λ r. IsReader nodes homes k r × IsReader nodes homes i r)
-        (λ r. decide_both (IsReader nodes homes k r) (IsReader nodes homes i r) (reader_known k r) (reader_known i r)) (ports_of homes)
+    shared_known k = decide_below (λ r. IsReader nodes homes k r × IsReader nodes homes i r) (λ r. search (decided, reader_known)) (ports_of homes)
 
     heard_known : IsDecidable (IsHeard nodes homes slots i s)
     heard_known =
@@ -114,12 +100,10 @@ module _ (nodes : NodeNet) (homes : Homes) where
         (λ some. record { sent = some.0; before = some.1; slot = some.2.0; reader = some.2.1.0; reads_sent = some.2.1.2.0; reads = some.2.1.2.1 })
         (λ received_before. (received_before.sent, received_before.before, (received_before.slot, (received_before.reader, (reader_port nodes homes i received_before.reader formed are received_before.reads).1, (received_before.reads_sent, received_before.reads)))))
         (decide_below (λ k. (slot_of slots k ≡ s) × ((r : ℕ) × (r < ports_of homes) × (IsReader nodes homes k r × IsReader nodes homes i r)))
-        (λ k. decide_both (slot_of slots k ≡ s) ((r : ℕ) × (r < ports_of homes) × (IsReader nodes homes k r × IsReader nodes homes i r)) (cases_eq (slot_of slots k) s) (shared_known k)) i)
+        (λ k. search (decided, shared_known)) i)
 
     pub blocked_known : IsDecidable (IsBlocked nodes homes slots i s)
-    blocked_known =
-        decide_either (IsTooEarly nodes slots i s) (IsHeld homes slots i s ⊎ IsHeard nodes homes slots i s) early_known
-        (decide_either (IsHeld homes slots i s) (IsHeard nodes homes slots i s) held_known heard_known)
+    blocked_known = search (decided, early_known, held_known, heard_known)
 
   -- ---- tables
 
@@ -147,4 +131,4 @@ module _ (nodes : NodeNet) (homes : Homes) where
       (λ some. record { node = some.0; feeds = some.3.0.0; is = some.2 ∙ ap Some some.3.0.1; home = some.3.1 })
       (λ u. (u.node, Node t u.feeds, u.is, ((u.feeds, refl), u.home)))
       (decide_member (λ k item. ((feeds : Feeds) × (item ≡ Node t feeds)) × (home_of homes k ≡ port))
-      (λ k item. decide_both ((feeds : Feeds) × (item ≡ Node t feeds)) (home_of homes k ≡ port) (node_known item t) (cases_eq (home_of homes k) port)) nodes.items)
+      (λ k item. search (decided, node_known)) nodes.items)

@@ -11,7 +11,7 @@ use Rattle.plan_defs.specs.Slots.{slot_of, IsFirstFitPlan}
 use Rattle.plan_defs.proofs.{ListLemmas.listed_all, lemmas.PlanLemmas.one_at_home, lemmas.PlanLemmas.one_received, lemmas.PortLemmas.reader_port}
 use Rattle.switch_set.specs.Links.{IsSlotList}
 use Rattle.switch_set.proofs.lemmas.ListLemmas.{listed_none, listed_same, listed_more}
-use Rattle.list_laws.proofs.Decidable.{IsDecidable, decide_both, decide_same, decide_less, decide_below}
+use Rattle.list_laws.proofs.Decidable.{IsDecidable, decided, decide_same, decide_below}
 use Rattle.yse_compile.proofs.{KnownLemmas.listed_to, lemmas.KnownUses.reader_known, lemmas.PlanExists.slots_end}
 
 -- items of which no two have one slot have a list in slot order
@@ -28,7 +28,7 @@ module _ {T : Type 0} (slot : T → ℕ) (IsOf : ℕ → T → Type 0) (IsIn : �
   IsThere s = IsDecidable ((i : ℕ) × (i < count) × (IsIn i × (slot_of slots i ≡ s)))
 
   there : (s : ℕ) → IsThere s
-  there s = decide_below (λ i. IsIn i × (slot_of slots i ≡ s)) (λ i. decide_both (IsIn i) (slot_of slots i ≡ s) (known i) (cases_eq (slot_of slots i) s)) count
+  there s = decide_below (λ i. IsIn i × (slot_of slots i ≡ s)) (λ i. search (decided, known)) count
 
   below_next : (s : ℕ) (list : List T) → IsSlotList slot IsOf (IsBelow s) list → IsThere s → (longer : List T) × IsSlotList slot IsOf (IsBelow (s + 1)) longer
   below_next s list listed (inr none) = (
@@ -79,9 +79,7 @@ module _ (nodes : NodeNet) (homes : Homes) (plan : Plan) (formed : IsWellFormed 
       decide_same ((i < length nodes.items) × ((home_of homes i ≡ port) × ((r : ℕ) × (r < ports_of homes) × IsReader nodes homes i r))) (IsSent nodes homes port i)
       (λ is. record { within = is.0; home = is.1.0; reader = is.1.1.0; reads = is.1.1.2 })
       (λ sent. (sent.within, (sent.home, (sent.reader, (reader_port nodes homes i sent.reader formed are sent.reads).1, sent.reads))))
-      (decide_both (i < length nodes.items) ((home_of homes i ≡ port) × ((r : ℕ) × (r < ports_of homes) × IsReader nodes homes i r)) (decide_less i (length nodes.items))
-      (decide_both (home_of homes i ≡ port) ((r : ℕ) × (r < ports_of homes) × IsReader nodes homes i r) (cases_eq (home_of homes i) port)
-      (decide_below (IsReader nodes homes i) (reader_known nodes homes i) (ports_of homes))))
+      (search (decided, decide_below (IsReader nodes homes i) (reader_known nodes homes i) (ports_of homes)))
 
   sends_listed : (port : ℕ) → (sends : List Sending) × IsSlotList (λ (sending : Sending). sending.slot) (IsSendingOf nodes homes plan.slots) (IsSent nodes homes port) sends
   sends_listed port =
@@ -102,7 +100,7 @@ module _ (nodes : NodeNet) (homes : Homes) (plan : Plan) (formed : IsWellFormed 
   receipts_listed : (port : ℕ) → (receipts : List Receipt) × IsSlotList (λ (receipt : Receipt). receipt.slot) (IsReceiptOf homes plan.slots) (IsReceived port) receipts
   receipts_listed port =
       listed_by_slot (λ (receipt : Receipt). receipt.slot) (IsReceiptOf homes plan.slots) (IsReceived port) plan.slots (length nodes.items)
-      (λ i. decide_both (i < length nodes.items) (IsReader nodes homes i port) (decide_less i (length nodes.items)) (reader_known nodes homes i port)) (λ i is. is.0)
+      (λ i. search (decided, reader_known)) (λ i is. is.0)
       (λ i is. (record { slot = slot_of plan.slots i; sender = home_of homes i }, record { slot = refl; sender = refl }))
       (λ i receipt of. of.slot)
       (λ i j is other same. one_received nodes homes plan.slots (length nodes.items) fit.slots i j port is.0 other.0 is.1 other.1 same)
