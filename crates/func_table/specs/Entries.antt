@@ -1,5 +1,5 @@
 -- A function table as its 256 entries.
-use Rattle.std.specs.Prelude.{◌≡◌, ℕ, ◌+◌, ◌*◌, ◌<◌, [], ◌∷◌, take, Option, Some, None}
+use Rattle.std.specs.Prelude.{◌≡◌, ℕ, ◌+◌, ◌*◌, ◌^◌, ◌<◌, [], ◌∷◌, length, take, All, Option, Some, None}
 use Rattle.logic_four.specs.{declared.V4.V4, declared.V4.TheVariants.Undef, declared.Kind.Kind, Values.code_of, Gates.gate_value, Packed.packed_value}
 use Rattle.func_table.specs.declared.table.Table.{Table}
 
@@ -27,7 +27,12 @@ abbrev pub looked_up : Option Table → V4 → V4 → V4 → V4 → V4
 looked_up None a b c d = Undef
 looked_up (Some table) a b c d = entry_for table a b c d
 
--- the table of a kind: for every four operands, what the kind answers for the first n of them
-abbrev pub IsTableOf : Kind → ℕ → Table → Type 0
-IsTableOf kind n table =
-    (a b c d : V4) → entry_for table a b c d ≡ gate_value kind (take n (a ∷ b ∷ c ∷ d ∷ []))
+-- the table has eight words of 64 bits
+pub record HasWords (table : Table) : Type 0 where
+  pub eight : length table.words ≡ 8
+  pub words : All (λ word. word < 2 ^ 64) table.words
+
+-- the table of a kind, which is one: for every four operands it has what the kind answers for the first n of them
+pub record IsTableOf (kind : Kind) (n : ℕ) (table : Table) : Type 0 where
+  pub answers : (a b c d : V4) → entry_for table a b c d ≡ gate_value kind (take n (a ∷ b ∷ c ∷ d ∷ []))
+  pub words : HasWords table

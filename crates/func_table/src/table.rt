@@ -2,7 +2,7 @@
 
 ghost use Rattle.std.specs.Prelude.{◌≡◌, ◌≤◌, ◌<◌, ℕ};
 ghost use Rattle.logic_four.specs.Kinds.{AllowsOperands};
-ghost use Rattle.func_table.specs.{Entries.entry_of, Entries.entry_for, Entries.IsTableOf, code.Entries.answer_at};
+ghost use Rattle.func_table.specs.{Entries.entry_of, Entries.entry_for, Entries.HasWords, Entries.IsTableOf, code.Entries.answer_at};
 
 use logic_four::{Kind, V4, code, decoded, gate, packed};
 
@@ -54,8 +54,15 @@ pub fn table_of(kind: Kind, operands: u32) -> Table
     'entries: for entry in 0..ENTRIES {
         packed::put(&mut words, entry, answer(kind, operands as usize, entry));
     }
-    Table { words }
+    let table = Table { words };
+    has_words(table);
+    table
 }
+
+/// A law: a table has eight words of 64 bits. It does nothing.
+fn has_words(_table: Table)
+    ensures { HasWords _table }
+{}
 
 /// A law: a table is its 256 entries. It does nothing.
 pub fn entries_decide(table: &Table, other: &Table)

@@ -7,7 +7,6 @@ mod MemberLemmas
 pub mod MemoryExists
 pub mod MemoryLemmas
 pub mod OneImage
-mod OrderLemmas
 pub mod PlacedLemmas
 pub mod PlannedLemmas
 pub mod PortLemmas

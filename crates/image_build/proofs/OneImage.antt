@@ -18,9 +18,9 @@ use Rattle.image_defs.specs.Places as places
 use Rattle.image_defs.proofs.lemmas.PlaceLemmas.{rises, place_found}
 use Rattle.plan_defs.specs.{declared.plan.Homes.Homes, Homes.block_home, Homes.host_of, Homes.ports_of, Lists.Lists, Slots.slot_of}
 use Rattle.switch_set.proofs.lemmas.SameLemmas.{one_lists}
-use Rattle.image_build.specs.Built.{Evaluates, AreInOrderOfUse, AreBlocksOf, IsOrdered, ArePortMemories}
+use Rattle.image_build.specs.Built.{Evaluates, AreBlocksOf, IsOrdered, ArePortMemories}
 use Rattle.image_build.specs.code.Layouts.{source_of, feed_source, block_for}
-use Rattle.image_build.proofs.OrderLemmas.{AreTwins, ArePaired, same_numbers, same_tables}
+use Rattle.func_table.proofs.OrderLemmas.{AreTwins, ArePaired, same_numbers, same_tables}
 use Rattle.image_build.proofs.PlacedLemmas.{same_by, IsPlacedBy, IsTaskLike, carried_source, memory_is, task_like}
 use Rattle.image_build.proofs.{MemberLemmas.made_there, WorkLemmas.eval_for}
 
@@ -232,7 +232,7 @@ module _ {one other : NodeNet} {homes : Homes} {slots : List ℕ} {claims : List
     no_hold : (slot n : ℕ) (a b c d : Source) (s : ℕ) (from : Source) → Eval slot n a b c d ≡ Hold s from → ⊥
     no_hold slot n a b c d s from e = cc
 
-    paired : ArePaired tables others tasks twins
+    paired : ArePaired tables others (Evaluates tasks) (Evaluates twins)
     paired = record {
       there = λ i n e.
           let also = twin_there i (Eval e.slot n e.a e.b e.c e.d) e.is in
@@ -282,7 +282,7 @@ module _ {one other : NodeNet} {homes : Homes} {slots : List ℕ} {claims : List
     tasks_same = same_by tasks twins as_many (λ i task also here there. by i task also here there (pair_at i task also here there).1) where
       by : {x : ℕ} (i : ℕ) (task also : Task) → slice_get tasks i ≡ Some task → slice_get twins i ≡ Some also → AreEvals homes slots p x tables others task also ⊎ AreHolds task also → task ≡ also
       by {x} i task also here there (inl evals) =
-          let numbers : evals.n ≡ evals.m = same_numbers tables others tasks twins work.ordered.1 work_too.ordered.1 paired i evals.n evals.m (mine (here ∙ ap Some evals.one)) (mine (there ∙ ap Some evals.other)) in
+          let numbers : evals.n ≡ evals.m = same_numbers tables others (Evaluates tasks) (Evaluates twins) work.ordered.1 work_too.ordered.1 paired i evals.n evals.m (mine (here ∙ ap Some evals.one)) (mine (there ∙ ap Some evals.other)) in
           evals.one ∙ ap (λ n. eval_for homes slots p x n evals.feeds) numbers ∙ sym evals.other where
             mine : {list : List Task} {n : ℕ} → slice_get list i ≡ Some (eval_for homes slots p x n evals.feeds) → Evaluates list i n
             mine e = record {
@@ -297,7 +297,7 @@ module _ {one other : NodeNet} {homes : Homes} {slots : List ℕ} {claims : List
 
     logic_same : (Whole : Table → Type 0) → ((t u : Table) → Whole t → Whole u → AreAlike t u → t ≡ u) → Each Whole tables → Each Whole others → Logic tables tasks ≡ Logic others twins
     logic_same Whole decided whole whole_too =
-        ap (λ ts. Logic ts tasks) (same_tables tables others tasks twins work.ordered.1 work_too.ordered.1 paired (λ n m t u here there. decided t u (whole n t here) (whole_too m u there)))
+        ap (λ ts. Logic ts tasks) (same_tables tables others (Evaluates tasks) (Evaluates twins) work.ordered.1 work_too.ordered.1 paired (λ n m t u here there. decided t u (whole n t here) (whole_too m u there)))
         ∙ ap (Logic others) tasks_same
 
   module _ (blocks others : List BlockWork) (outs twins : List OutBit) (work : Does one homes slots claims first p port (Array blocks outs)) (work_too : Does other homes slots claims second p twin (Array others twins)) where

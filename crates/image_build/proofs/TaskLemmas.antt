@@ -2,12 +2,12 @@
 use Rattle.std.proofs.Common.{◌≡◌, ◌⊎◌, inl, inr, ℕ, ◌+◌, ◌<◌, ◌≤◌, List, [], ◌∷◌, ◌++◌, length, take, get_or, Some, slice_get, sym, ap, ◌∙◌, subst, refl, arith}
 use Rattle.std.proofs.lemmas.{Bool.cases_lt, List.length_push, Option.slice_get_within}
 use Rattle.list_laws.proofs.Places.{at_front, seam_at}
-use Rattle.func_table.specs.{declared.table.Table.Table, Shelf.AreDifferent}
+use Rattle.func_table.specs.{declared.table.Table.Table, Shelf.AreDifferent, Shelf.AreInOrderOfUse}
 use Rattle.node_defs.specs.declared.items.Item.TheVariants.{Input, BlockBit, Node, Latch}
 use Rattle.node_defs.specs.declared.items.{Item.Item, NodeNet.NodeNet}
 use Rattle.image_defs.specs.declared.image.{Source.Source, Task.Task, Task.TheVariants.Eval, Task.TheVariants.Hold}
 use Rattle.plan_defs.specs.declared.plan.Homes.{Homes}
-use Rattle.image_build.specs.{Built.Evaluates, Built.AreInOrderOfUse, code.Layouts.IsTaskFor, code.Plans.Shelves, code.Plans.AreFirstTasks}
+use Rattle.image_build.specs.{Built.Evaluates, code.Layouts.IsTaskFor, code.Plans.Shelves, code.Plans.AreFirstTasks}
 use Rattle.image_build.proofs.GrowLemmas.{last_place, made_kept, made_next}
 
 -- ---- tables
@@ -70,7 +70,7 @@ none_past old new (Hold slot from) n shelf is = absurd is
 none_past old new (Eval slot m a b c d) n (table, inl (here, same)) is = omega (arith, is, slice_get_within old m table here)
 none_past old new (Eval slot m a b c d) n (table, inr (other, at, grown)) is = omega (arith, is, at)
 
-order_more : (old new : List Table) (tasks : List Task) (task : Task) → AreInOrderOfUse old tasks → AreDifferent new → Shelves old new task → AreInOrderOfUse new (tasks ++ task ∷ [])
+order_more : (old new : List Table) (tasks : List Task) (task : Task) → AreInOrderOfUse (Evaluates tasks) old → AreDifferent new → Shelves old new task → AreInOrderOfUse (Evaluates (tasks ++ task ∷ [])) new
 order_more old new tasks task so_far different shelf = record {
   different = different;
   used = λ n low. elim (fresh old new task n shelf low) [

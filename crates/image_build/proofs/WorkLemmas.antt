@@ -4,7 +4,7 @@ use Rattle.std.proofs.lemmas.{List.length-map, Option.slice_get_within}
 use Rattle.std.specs.List.{Contains}
 use Rattle.list_laws.proofs.{Members.member_at, Members.mapped_at, Members.listed, Options.one_some}
 use Rattle.net_defs.specs.declared.timing.Timing.{Timing}
-use Rattle.func_table.specs.declared.table.Table.{Table}
+use Rattle.func_table.specs.{declared.table.Table.Table, Shelf.AreInOrderOfUse}
 use Rattle.node_defs.specs.declared.items.Item.TheVariants.{Input, BlockBit, Node, Latch}
 use Rattle.node_defs.specs.declared.items.{Tag.TheVariants.This, Tag.TheVariants.Last, Feed.TheVariants.From, Feeds.Feeds, Item.Item, NodeBlock.NodeBlock}
 use Rattle.node_defs.specs.{declared.items.NodeNet.NodeNet, Takes.Takes, Takes.BlockTakes, WellFormed.IsMemoryOf, WellFormed.column_count}
@@ -15,7 +15,7 @@ use Rattle.image_defs.specs.declared.image.{InColumn.InColumn, Work.Work, Work.T
 use Rattle.image_defs.specs.{declared.image.PortImage.PortImage, declared.image.Image.Image, Places.Each, Places.IsPort, Places.printed_of}
 use Rattle.plan_defs.specs.{declared.plan.Homes.Homes, declared.plan.Plan.Plan, declared.switch.Switch.Switch, Homes.block_home, Homes.host_of, Readers.IsUser}
 use Rattle.plan_defs.specs.{Slots.slot_of, Switches.IsSwitch}
-use Rattle.image_build.specs.Built.{AreInOrderOfUse, ArePortMemories, AreBlocksOf, IsOrdered}
+use Rattle.image_build.specs.Built.{Evaluates, ArePortMemories, AreBlocksOf, IsOrdered}
 use Rattle.image_build.specs.code.Layouts.{source_of, feed_source, IsTaskFor, AreTasks, block_for, AreBlocks, IsBitFor, AreBits, IsInputFor, AreInputs, IsWorkFor, IsLaidOut}
 use Rattle.image_build.specs.{PortItems.IsAt, Plans.IsPlanned}
 use Rattle.image_build.proofs.SourceLemmas.{early, feed_right, past_right, present_right}
@@ -121,7 +121,7 @@ module _ {nodes : NodeNet} {homes : Homes} {plan : Plan} {switch : Switch} {timi
   at_port : (i x : ℕ) → IsClaim claims p i x → IsAt nodes homes p x
   at_port i x claim = claim_at laid p i x (port_low laid p port at) claim
 
-  logic_done : (tables : List Table) (tasks : List Task) → p < homes.logic → AreTasks nodes homes plan.slots p (claims_of claims p) tables tasks → AreInOrderOfUse tables tasks
+  logic_done : (tables : List Table) (tasks : List Task) → p < homes.logic → AreTasks nodes homes plan.slots p (claims_of claims p) tables tasks → AreInOrderOfUse (Evaluates tasks) tables
       → IsDone nodes homes claims image p port (Logic tables tasks)
   logic_done tables tasks low are order = record {
     names = λ i task here.

@@ -3,7 +3,7 @@
 use Rattle.std.specs.Prelude.{◌≡◌, ℕ, ◌*◌, ◌<◌, ◌≤◌, List, length, map, Some, slice_get}
 use Rattle.logic_four.specs.Values.{value_at}
 use Rattle.net_defs.specs.{declared.timing.Timing.Timing, declared.stimulus.Stimulus.Stimulus, Steps.State}
-use Rattle.func_table.specs.{declared.table.Table.Table, Shelf.AreDifferent}
+use Rattle.func_table.specs.{declared.table.Table.Table, Shelf.AreInOrderOfUse}
 use Rattle.node_defs.specs.declared.items.{Item.TheVariants.BlockBit, NodeBlock.NodeBlock, NodeNet.NodeNet}
 use Rattle.image_defs.specs.Matches.{claims_of, IsClaim, Matches, MemoryImplements}
 use Rattle.image_defs.specs.declared.image.{Source.Source, Task.Task, Task.TheVariants.Eval, BlockWork.BlockWork, OutBit.OutBit, Work.Work}
@@ -25,12 +25,6 @@ pub record Evaluates (tasks : List Task) (i n : ℕ) : Type 0 where
   pub d : Source
   pub is : slice_get tasks i ≡ Some (Eval slot n a b c d)
 
--- the tables differ, and stand in the order in which the tasks first use them
-pub record AreInOrderOfUse (tables : List Table) (tasks : List Task) : Type 0 where
-  pub different : AreDifferent tables
-  pub used : (n : ℕ) → n < length tables → (i : ℕ) × Evaluates tasks i n
-  pub before : (i m n : ℕ) → Evaluates tasks i n → m < n → (j : ℕ) × (j < i) × Evaluates tasks j m
-
 -- the numbers of the memories of port p, in their order
 abbrev pub ArePortMemories : NodeNet → Homes → ℕ → List ℕ → Type 0
 ArePortMemories nodes homes p numbers = Lists (λ m. (m < length nodes.blocks) × (block_home homes m ≡ p)) numbers
@@ -45,7 +39,7 @@ pub record AreBlocksOf (nodes : NodeNet) (homes : Homes) (image : Image) (claims
 
 -- logic ports come first, then array ports, then the host; tables and memories stand in order
 abbrev pub IsOrdered : NodeNet → Homes → Image → List (List ℕ) → ℕ → List LinkIn → Work → Type 0
-IsOrdered nodes homes image claims p ins (Logic tables tasks) = (p < homes.logic) × AreInOrderOfUse tables tasks
+IsOrdered nodes homes image claims p ins (Logic tables tasks) = (p < homes.logic) × AreInOrderOfUse (Evaluates tasks) tables
 IsOrdered nodes homes image claims p ins (Array blocks outs) =
     (homes.logic ≤ p) × (p < host_of homes) × AreBlocksOf nodes homes image claims p ins blocks outs
 IsOrdered nodes homes image claims p ins (Host inputs printed) = p ≡ host_of homes

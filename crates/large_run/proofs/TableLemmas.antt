@@ -71,7 +71,7 @@ one_shape a b same = let is : a ≡ b = one_some a b same in (ap (λ (p : Kind �
 
 -- tables of one kind and one number of operands are alike
 alike : (kind : Kind) (n : ℕ) (s t : Table) → IsTableOf kind n s → IsTableOf kind n t → AreAlike s t
-alike kind n s t one other = same_entries s t (λ a b c d. one a b c d ∙ sym (other a b c d))
+alike kind n s t one other = same_entries s t (λ a b c d. one.answers a b c d ∙ sym (other.answers a b c d))
 
 -- ---- the table of a node
 

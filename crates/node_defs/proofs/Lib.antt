@@ -1,4 +1,5 @@
 mod ChainLemmas
+mod FreeLemmas
 mod GateLemmas
 pub mod lemmas
 mod NodeLemmas

@@ -67,5 +67,5 @@ module _ (names : List ItemName) (tables : List Table) (old new : State) (late :
   pub node_is : (kind : Kind) (group : Group) (item : Item) → (node : IsNode names tables late s ops kind group item)
       → looked_up (slice_get tables node.table) (feed_value old new node.feeds.a) (feed_value old new node.feeds.b) (feed_value old new node.feeds.c) (feed_value old new node.feeds.d) ≡ gate_value kind (wires value group)
   node_is kind group item node =
-      rw node.answers.1 (node.answers.2 (feed_value old new node.feeds.a) (feed_value old new node.feeds.b) (feed_value old new node.feeds.c) (feed_value old new node.feeds.d)
+      rw node.answers.1 (node.answers.2.answers (feed_value old new node.feeds.a) (feed_value old new node.feeds.b) (feed_value old new node.feeds.c) (feed_value old new node.feeds.d)
       ∙ ap (gate_value kind) (feeds_are kind group item node))

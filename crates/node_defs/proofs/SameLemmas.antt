@@ -1,23 +1,28 @@
 -- Two lists of items of one netlist stand in the same order and hold the same items.
 use Rattle.std.proofs.Common.{◌≡◌, ◌∙◌, ◌⊎◌, inl, inr, ℕ, zero, suc, ◌+◌, ◌<◌, ◌≤◌, nat_lt, Bool, if◌then◌else◌, List, [], ◌∷◌, length, get_or, refl, sym, ap, subst, arith}
-use Rattle.std.proofs.lemmas.Bool.{cases_lt, cases_order, lt-ltb, le-ltb}
+use Rattle.std.proofs.lemmas.Bool.{cases_lt, lt-ltb, le-ltb}
 use Rattle.std.proofs.lemmas.Option.{slice_get-get_or, slice_get_within, get_or_from_slice_get, none-some}
 use Rattle.std.proofs.lemmas.{Bool.Decides.nat_tests, List.same_lists, List.get_or_default}
-use Rattle.std.specs.Prelude.{◌↔◌, Option, Some, None, slice_get}
+use Rattle.std.specs.Prelude.{Option, Some, None, slice_get}
 use Rattle.list_laws.proofs.{Members.member_at, Options.one_some}
 use Rattle.logic_four.specs.declared.{V4.V4, V4.TheVariants.Zero, Kind.Kind}
 use Rattle.net_defs.specs.declared.{netlist.Netlist.Netlist, netlist.Signal.Signal, netlist.Block.Block, netlist.Driver.Driver, timing.Timing.Timing}
 use Rattle.net_defs.specs.Steps.{is_late}
 use Rattle.net_defs.specs.declared.netlist.Driver.TheVariants as driver
-use Rattle.func_table.specs.{declared.table.Table.Table, Entries.looked_up, Entries.entry_for, Shelf.AreDifferent}
+use Rattle.func_table.specs.declared.table.Table.{Table}
 use Rattle.node_defs.specs.declared.items.Item.TheVariants.{Input, BlockBit, Node, Latch}
 use Rattle.node_defs.specs.Items.{own, IsNamed, wire_name, wire_tag, feed_at, IsNode, IsItemOf, IsItem, IsAmong, helpers_of, StandFor, IsNodeBlock}
 use Rattle.node_defs.specs.Order.{class_of, rank_after_feed, rank_of, Key, key_of, HelperBefore, Before, AreItems}
 use Rattle.node_defs.specs.declared.{groups.Group.Group, items.Tag.Tag, items.Tag.TheVariants.This, items.Tag.TheVariants.Last, items.Feed.Feed}
 use Rattle.node_defs.specs.declared.items.{Feed.TheVariants.From, Feed.TheVariants.Fixed, Feeds.Feeds, Item.Item, ItemName.ItemName, NodeBlock.NodeBlock}
-use Rattle.node_defs.specs.{declared.items.NodeNet.NodeNet, Same.IsSameTable, Same.AreSameItem, Same.AreSameItems}
-use Rattle.func_table.proofs.EntryLemmas.{same_entries}
-use Rattle.node_defs.proofs.{SeenLemmas.item_named, lemmas.EarlierLemmas.earlier, lemmas.EarlierLemmas.table_there}
+use Rattle.node_defs.specs.{declared.items.NodeNet.NodeNet, Order.IsNodeOf, Order.IsMapped}
+use Rattle.func_table.proofs.{EntryLemmas.same_entries, OrderLemmas.AreTwins, OrderLemmas.ArePaired, OrderLemmas.same_numbers, OrderLemmas.same_tables, OrderLemmas.words_decide, OrderLemmas.same_by}
+use Rattle.node_defs.proofs.{SeenLemmas.item_named, lemmas.EarlierLemmas.earlier, lemmas.EarlierLemmas.table_words}
+
+-- two items are the same, but for the numbers of their tables, which have the same entries
+abbrev pub AreSameItem : List Table → List Table → Item → Item → Type 0
+AreSameItem tables others (Node t feeds) (Node u others_feeds) = (feeds ≡ others_feeds) × AreTwins tables others t u
+AreSameItem tables others one other = one ≡ other
 
 -- lists that hold the same at each place
 lists_same : {X : Type 0} (xs ys : List X) → ((k : ℕ) → slice_get xs k ≡ slice_get ys k) → xs ≡ ys
@@ -149,7 +154,7 @@ module _ (net : Netlist) (timing : Timing) where
       one_is : i ≡ Node t feeds
       other_is : j ≡ Node u others
       operands : (place : ℕ) → SameOperands (feed_at feeds place) (feed_at others place)
-      tables : IsSameTable one.tables other.tables t u
+      tables : AreTwins one.tables other.tables t u
 
     -- latches of the same operand
     record SameLatches (i j : Item) : Type 0 where
@@ -181,8 +186,14 @@ module _ (net : Netlist) (timing : Timing) where
       operands = same_operands late s ops kind group i j a b;
       tables = tables;
     }) where
-      tables : IsSameTable one.tables other.tables a.table b.table
-      tables v w x y = rw a.answers.1 (rw b.answers.1 (a.answers.2 v w x y ∙ sym (b.answers.2 v w x y)))
+      tables : AreTwins one.tables other.tables a.table b.table
+      tables = record {
+        one = a.answers.0;
+        other = b.answers.0;
+        one_is = a.answers.1;
+        other_is = b.answers.1;
+        alike = same_entries a.answers.0 b.answers.0 (λ v w x y. a.answers.2.answers v w x y ∙ sym (b.answers.2.answers v w x y));
+      }
 
     driver_same : (late : Bool) (s : ℕ) (d : Driver) (helper : Option ℕ) (i j : Item)
         → IsItemOf one.names one.tables late s d helper i → IsItemOf other.names other.tables late s d helper j → SameName i j
@@ -314,7 +325,7 @@ module _ (net : Netlist) (timing : Timing) (one other : NodeNet) (first : AreIte
   feeds_same f g same =
       four_same f.a f.b f.c f.d g.a g.b g.c g.d (feed_same f.a g.a (same 0)) (feed_same f.b g.b (same 1)) (feed_same f.c g.c (same 2)) (feed_same f.d g.d (same 3))
 
-  items_same : (x : ℕ) (i j : Item) → slice_get one.items x ≡ Some i → slice_get other.items x ≡ Some j → AreSameItem one.tables other.tables i j
+  pub items_same : (x : ℕ) (i j : Item) → slice_get one.items x ≡ Some i → slice_get other.items x ≡ Some j → AreSameItem one.tables other.tables i j
   items_same x i j one_at other_at = by_same (name_same net timing one other first second name.0 i j one_is other_is) where
     name : (n : ItemName) × (slice_get one.names x ≡ Some n)
     name = member_at one.names x (omega (arith, first.named, slice_get_within one.items x i one_at))
@@ -325,7 +336,7 @@ module _ (net : Netlist) (timing : Timing) (one other : NodeNet) (first : AreIte
     other_is : IsItem net timing other.names other.tables name.0 j
     other_is = second.right x name.0 j (sym (names_at x) ∙ name.1) other_at
 
-    of_nodes : (t u : ℕ) (feeds others : Feeds) → i ≡ Node t feeds → j ≡ Node u others → feeds ≡ others → IsSameTable one.tables other.tables t u → AreSameItem one.tables other.tables i j
+    of_nodes : (t u : ℕ) (feeds others : Feeds) → i ≡ Node t feeds → j ≡ Node u others → feeds ≡ others → AreTwins one.tables other.tables t u → AreSameItem one.tables other.tables i j
     of_nodes t u feeds others i_is j_is feeds_are tables = rw i_is (rw j_is (feeds_are, tables))
 
     by_same : SameName net timing one other first second i j → AreSameItem one.tables other.tables i j
@@ -333,53 +344,6 @@ module _ (net : Netlist) (timing : Timing) (one other : NodeNet) (first : AreIte
     by_same (inr (inl latches)) =
         rw latches.one_is (rw latches.other_is (ap Latch (one_place latches.x latches.y latches.name latches.one_named latches.other_named)))
     by_same (inr (inr plain)) = grind (arith, plain.same, plain.plain)
-
-  -- different tables of one list differ in an entry
-  one_number : (tables : List Table) (t u : ℕ) → AreDifferent tables → t < length tables → u < length tables → IsSameTable tables tables t u → t ≡ u
-  one_number tables t u different within inside same = by_order (cases_order t u) where
-    first_of : (T : Table) × (slice_get tables t ≡ Some T)
-    first_of = member_at tables t within
-
-    second_of : (U : Table) × (slice_get tables u ≡ Some U)
-    second_of = member_at tables u inside
-
-    entries : (a b c d : V4) → entry_for first_of.0 a b c d ≡ entry_for second_of.0 a b c d
-    entries a b c d = ap (λ o. looked_up o a b c d) (sym first_of.1) ∙ (same a b c d ∙ ap (λ o. looked_up o a b c d) second_of.1)
-
-    here : get_or tables t first_of.0 ≡ first_of.0
-    here = get_or_from_slice_get tables t first_of.0 first_of.0 first_of.1
-
-    there : get_or tables u first_of.0 ≡ second_of.0
-    there = get_or_from_slice_get tables u second_of.0 first_of.0 second_of.1
-
-    by_order : (t ≡ u) ⊎ ((t < u) ⊎ (u < t)) → t ≡ u
-    by_order (inl one) = one
-    by_order (inr (inl before)) =
-        absurd (different t u first_of.0 before inside (rw here (rw there (same_entries first_of.0 second_of.0 entries))))
-    by_order (inr (inr after)) =
-        absurd (different u t first_of.0 after within (rw here (rw there (same_entries second_of.0 first_of.0 (λ a b c d. sym (entries a b c d))))))
-
-  table_of_node : (x t v : ℕ) (f h : Feeds) → slice_get one.items x ≡ Some (Node t f) → slice_get other.items x ≡ Some (Node v h) → IsSameTable one.tables other.tables t v
-  table_of_node x t v f h one_at other_at = (items_same x (Node t f) (Node v h) one_at other_at).1
-
-  sharing : (x y t u v w : ℕ) (f g h k : Feeds) → slice_get one.items x ≡ Some (Node t f) → slice_get one.items y ≡ Some (Node u g)
-      → slice_get other.items x ≡ Some (Node v h) → slice_get other.items y ≡ Some (Node w k) → (t ≡ u) ↔ (v ≡ w)
-  sharing x y t u v w f g h k one_x one_y other_x other_y = (there, back) where
-    at_x : IsSameTable one.tables other.tables t v
-    at_x = table_of_node x t v f h one_x other_x
-
-    at_y : IsSameTable one.tables other.tables u w
-    at_y = table_of_node y u w g k one_y other_y
-
-    there : t ≡ u → v ≡ w
-    there same =
-        one_number other.tables v w second.tables (table_there net timing other second x v h other_x) (table_there net timing other second y w k other_y)
-        (λ a b c d. sym (at_x a b c d) ∙ (ap (λ n. looked_up (slice_get one.tables n) a b c d) same ∙ at_y a b c d))
-
-    back : v ≡ w → t ≡ u
-    back same =
-        one_number one.tables t u first.tables (table_there net timing one first x t f one_x) (table_there net timing one first y u g one_y)
-        (λ a b c d. at_x a b c d ∙ (ap (λ n. looked_up (slice_get other.tables n) a b c d) same ∙ sym (at_y a b c d)))
 
   numbers_same : (numbers others signals : List ℕ) → StandFor one.names numbers signals → StandFor other.names others signals → numbers ≡ others
   numbers_same numbers others signals a b =
@@ -418,15 +382,79 @@ nodes_no_earlier net timing one other first second = by_place (cases_lt other.fi
       node_same net timing one other first second other.first_node other.first_node name.0 name.1 (sym (names_at net timing one other first second other.first_node) ∙ name.1) in
       cc (sym (lt-ltb other.first_node one.first_node low) ∙ (same ∙ le-ltb other.first_node other.first_node (omega arith)))
 
-pub one_list : (net : Netlist) (timing : Timing) (one other : NodeNet) → AreItems net timing one → AreItems net timing other → AreSameItems one other
-one_list net timing one other first second = record {
-  names = names_same net timing one other first second;
-  count = count_same net timing one other first second;
-  items = items_same net timing one other first second;
-  sharing = sharing net timing one other first second;
-  printed = numbers_same net timing one other first second one.printed other.printed net.printed first.printed second.printed;
-  blocks = blocks_same net timing one other first second;
-  first_node = ends (nodes_no_earlier net timing one other first second) (nodes_no_earlier net timing other one second first);
-} where
+first_same : (net : Netlist) (timing : Timing) (one other : NodeNet) → AreItems net timing one → AreItems net timing other → one.first_node ≡ other.first_node
+first_same net timing one other first second = ends (nodes_no_earlier net timing one other first second) (nodes_no_earlier net timing other one second first) where
   ends : one.first_node ≤ other.first_node → other.first_node ≤ one.first_node → one.first_node ≡ other.first_node
   ends up down = omega (arith, up, down)
+
+pub alike : (net : Netlist) (timing : Timing) (one other : NodeNet) → AreItems net timing one → AreItems net timing other
+    → (one.names ≡ other.names) × (length one.items ≡ length other.items) × (one.printed ≡ other.printed) × (one.blocks ≡ other.blocks) × (one.first_node ≡ other.first_node)
+alike net timing one other first second = (
+  names_same net timing one other first second,
+  count_same net timing one other first second,
+  numbers_same net timing one other first second one.printed other.printed net.printed first.printed second.printed,
+  blocks_same net timing one other first second,
+  first_same net timing one other first second,
+)
+
+-- ---- the numbers of the tables
+
+module _ (net : Netlist) (timing : Timing) (one other : NodeNet) (first : IsMapped net timing one) (second : IsMapped net timing other) where
+  like : (x : ℕ) (i j : Item) → slice_get one.items x ≡ Some i → slice_get other.items x ≡ Some j → AreSameItem one.tables other.tables i j
+  like = items_same net timing one other first.items second.items
+
+  many : length one.items ≡ length other.items
+  many = count_same net timing one other first.items second.items
+
+  -- where an item is a node in one list, it is one in the other, of a table with the same entries
+  paired : ArePaired one.tables other.tables (IsNodeOf one.items) (IsNodeOf other.items)
+  paired = record {
+    there = λ x t e. let j : (j : Item) × (slice_get other.items x ≡ Some j) = member_at other.items x (omega (arith, many, slice_get_within one.items x (Node t e.feeds) e.is)) in node_like x t e.feeds j.0 j.1 (like x (Node t e.feeds) j.0 e.is j.1);
+    back = λ x u f. let i : (i : Item) × (slice_get one.items x ≡ Some i) = member_at one.items x (omega (arith, many, slice_get_within other.items x (Node u f.feeds) f.is)) in node_back x u f.feeds i.0 i.1 (like x i.0 (Node u f.feeds) i.1 f.is);
+    same = λ x t u e f. (like x (Node t e.feeds) (Node u f.feeds) e.is f.is).1;
+  } where
+    node_like : (x t : ℕ) (feeds : Feeds) (j : Item) → slice_get other.items x ≡ Some j → AreSameItem one.tables other.tables (Node t feeds) j → (u : ℕ) × IsNodeOf other.items x u
+    node_like x t feeds (Node u others) at same = (u, record { feeds = others; is = at })
+    node_like x t feeds (Input column) at same = cc
+    node_like x t feeds (BlockBit block bit) at same = cc
+    node_like x t feeds (Latch op) at same = cc
+
+    node_back : (x u : ℕ) (feeds : Feeds) (i : Item) → slice_get one.items x ≡ Some i → AreSameItem one.tables other.tables i (Node u feeds) → (t : ℕ) × IsNodeOf one.items x t
+    node_back x u feeds (Node t others) at same = (t, record { feeds = others; is = at })
+    node_back x u feeds (Input column) at same = cc
+    node_back x u feeds (BlockBit block bit) at same = cc
+    node_back x u feeds (Latch op) at same = cc
+
+  items_are : one.items ≡ other.items
+  items_are = same_by one.items other.items many (λ x i j here there. by x i j here there (like x i j here there)) where
+    by : (x : ℕ) (i j : Item) → slice_get one.items x ≡ Some i → slice_get other.items x ≡ Some j → AreSameItem one.tables other.tables i j → i ≡ j
+    by x (Node t feeds) (Node u others) here there same =
+        let number : t ≡ u = same_numbers one.tables other.tables (IsNodeOf one.items) (IsNodeOf other.items) first.tables second.tables paired x t u (record { feeds = feeds; is = here }) (record { feeds = others; is = there }) in
+        ap (λ n. Node n feeds) number ∙ ap (Node u) same.0
+    by x (Node t feeds) (Input column) here there same = same
+    by x (Node t feeds) (BlockBit block bit) here there same = same
+    by x (Node t feeds) (Latch op) here there same = same
+    by x (Input column) j here there same = same
+    by x (BlockBit block bit) j here there same = same
+    by x (Latch op) j here there same = same
+
+  tables_are : one.tables ≡ other.tables
+  tables_are = same_tables one.tables other.tables (IsNodeOf one.items) (IsNodeOf other.items) first.tables second.tables paired
+      (λ n m s t here there. words_decide s t (table_words net timing one first.items n s here) (table_words net timing other second.items m t there))
+
+abbrev nodes_of : List Item → List ItemName → List Table → List ℕ → List NodeBlock → ℕ → NodeNet
+nodes_of items names tables printed blocks first = record { items = items; names = names; tables = tables; printed = printed; blocks = blocks; first_node = first }
+
+six_same : (i j : List Item) (n m : List ItemName) (t u : List Table) (p q : List ℕ) (b c : List NodeBlock) (f g : ℕ)
+    → i ≡ j → n ≡ m → t ≡ u → p ≡ q → b ≡ c → f ≡ g → nodes_of i n t p b f ≡ nodes_of j m u q c g
+six_same i j n m t u p q b c f g is ns ts ps bs fs = rw is (rw ns (rw ts (rw ps (rw bs (rw fs refl)))))
+
+pub one_list : (net : Netlist) (timing : Timing) (one other : NodeNet) → IsMapped net timing one → IsMapped net timing other → one ≡ other
+one_list net timing one other first second =
+    six_same one.items other.items one.names other.names one.tables other.tables one.printed other.printed one.blocks other.blocks one.first_node other.first_node
+    (items_are net timing one other first second)
+    (names_same net timing one other first.items second.items)
+    (tables_are net timing one other first second)
+    (numbers_same net timing one other first.items second.items one.printed other.printed net.printed first.items.printed second.items.printed)
+    (blocks_same net timing one other first.items second.items)
+    (first_same net timing one other first.items second.items)

@@ -1,7 +1,7 @@
 -- In which order the items of a netlist stand, and the whole list.
 use Rattle.std.specs.Prelude.{◌≡◌, ℕ, ◌+◌, ◌<◌, ◌≤◌, nat_lt, max, if◌then◌else◌, ◌⊎◌, ◌↔◌, List, length, Option, Some, None, slice_get, slice_index}
 use Rattle.net_defs.specs.declared.{netlist.Netlist.Netlist, netlist.Block.Block, timing.Timing.Timing}
-use Rattle.func_table.specs.Shelf.{AreDifferent}
+use Rattle.func_table.specs.Shelf.{AreDifferent, AreInOrderOfUse}
 use Rattle.node_defs.specs.declared.items.Item.TheVariants.{Input, BlockBit, Node, Latch}
 use Rattle.node_defs.specs.Items.{IsNamed, IsItem, AreNames, StandFor, IsNodeBlock}
 use Rattle.node_defs.specs.declared.items.{Tag.TheVariants.This, Tag.TheVariants.Last, Feed.Feed, Feed.TheVariants.From, Feed.TheVariants.Fixed, Feeds.Feeds}
@@ -70,3 +70,14 @@ pub record AreItems (net : Netlist) (timing : Timing) (nodes : NodeNet) : Type 0
   pub printed : StandFor nodes.names nodes.printed net.printed
   pub memories : length nodes.blocks ≡ length net.blocks
   pub blocks : (m : ℕ) (memory : Block) (block : NodeBlock) → slice_get net.blocks m ≡ Some memory → slice_get nodes.blocks m ≡ Some block → IsNodeBlock nodes.names memory block
+
+-- item x is a node of this table
+pub record IsNodeOf (items : List Item) (x table : ℕ) : Type 0 where
+  pub feeds : Feeds
+  pub is : slice_get items x ≡ Some (Node table feeds)
+
+-- the netlist is mapped to these nodes: they are its items, and their tables are numbered in the order in which the items
+-- first use them. So a netlist and a timing are mapped to one list
+pub record IsMapped (net : Netlist) (timing : Timing) (nodes : NodeNet) : Type 0 where
+  pub items : AreItems net timing nodes
+  pub tables : AreInOrderOfUse (IsNodeOf nodes.items) nodes.tables

@@ -4,7 +4,7 @@
 //! `specs/`.
 //!
 //! ```
-//! ensures items { IfOk result (AreItems net.now timing.now) } // a clause of `map_nodes` in `node_map`
+//! ensures items { IfOk result (IsMapped net.now timing.now) } // a clause of `map_nodes` in `node_map`
 //! let helpers = helper_count(17); // 7: 17 operands make five groups, and these make two
 //! ```
 #![tactic(auto)]

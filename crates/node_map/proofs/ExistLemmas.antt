@@ -9,19 +9,19 @@ use Rattle.logic_four.specs.{declared.V4.TheVariants.Zero, declared.Kind.Kind, K
 use Rattle.net_defs.specs.declared.{netlist.Netlist.Netlist, netlist.Signal.Signal, netlist.Block.Block, netlist.Driver.Driver, timing.Timing.Timing}
 use Rattle.net_defs.specs.{Steps.is_late, Loops.gate_operands, Loops.IsOrder, Valid.IsSignal, Valid.IsDrivable, Valid.IsValid}
 use Rattle.net_defs.specs.declared.netlist.Driver.TheVariants as driver
-use Rattle.func_table.specs.{declared.table.Table.Table, Shelf.AreDifferent}
+use Rattle.func_table.specs.{declared.table.Table.Table, Entries.HasWords, Shelf.AreDifferent}
 use Rattle.list_laws.proofs.Members.{each, member_at, map_at, mapped_at}
 use Rattle.list_laws.proofs.{Places.one_there, Ranges.last_or}
 use Rattle.logic_four.proofs.lemmas.KindLemmas.{few_operands}
 use Rattle.node_defs.specs.declared.items.Item.TheVariants.{Input, BlockBit, Node, Latch}
 use Rattle.node_defs.specs.Items.{own, IsNamed, wire_tag, StandFor, IsNodeBlock}
 use Rattle.node_defs.specs.declared.{groups.Group.Group, items.Feed.Feed, items.Feed.TheVariants.From, items.Feed.TheVariants.Fixed, items.Feeds.Feeds}
-use Rattle.node_defs.specs.{declared.items.Item.Item, declared.items.NodeBlock.NodeBlock, declared.items.NodeNet.NodeNet, Groups.group_at, Order.AreItems}
+use Rattle.node_defs.specs.{declared.items.Item.Item, declared.items.NodeBlock.NodeBlock, declared.items.NodeNet.NodeNet, Groups.group_at, Order.IsMapped}
 use Rattle.node_map.specs.code.Wires.{operands_of, helpers_at, rank_at, AreOwnRanks}
 use Rattle.node_map.specs.code.Places.{start_of, keys_to, key_cmp, name_of, flat_in, AreKeyed, AreRight, AreFlat, IsNumbering}
 use Rattle.node_map.specs.code.Nodes.{IsFeed, AreFeeds, IsNodeAt, node_kind}
 use Rattle.node_map.specs.code.Made.{driver_at, IsMadeItem, AreMade, AreNodeBlocks}
-use Rattle.node_map.specs.{declared.keys.Key.Key, declared.numbering.Numbering.Numbering, Words.HasWords, code.Tables.Keeps}
+use Rattle.node_map.specs.{declared.keys.Key.Key, declared.numbering.Numbering.Numbering, code.Tables.Keeps}
 use Rattle.node_map.proofs.RankLemmas.{OwnTo, own_begun, own_more, own_all}
 use Rattle.node_map.proofs.NumberLemmas.{NumbersTo, numbers_begun, numbers_more, numbers_all, are_flat, are_numbered, own_found, helper_found}
 use Rattle.node_map.proofs.ItemLemmas.{MadeTo, made_begun, made_more, made_all, driver_there, made_input, made_bit, made_latch, made_gate}
@@ -156,15 +156,15 @@ module _ (net : Netlist) (numbering : Numbering) (numbered : IsNumbering net num
       item : Item
       different : AreDifferent tables
       kept : Keeps old tables
-      words : All HasWords old → All HasWords tables
+      words : All HasWords tables
       node : IsNodeAt numbering.names old tables late s (operands_of net s) kind place item
 
-    node_there : (old : List Table) (kind : Kind) (place : ℕ) → AreDifferent old → AllowsOperands kind (length (operands_of net s)) → place ≤ helpers_at net s
+    node_there : (old : List Table) (kind : Kind) (place : ℕ) → AreDifferent old → All HasWords old → AllowsOperands kind (length (operands_of net s)) → place ≤ helpers_at net s
         → (tables : List Table) × IsNodeStep old kind place tables
-    node_there old kind place different allowed among =
+    node_there old kind place different whole allowed among =
         let n : ℕ = length (operands_of net s) in
         let shape = group_shaped kind n place allowed among in
-        let shelf : _ = shelved old (node_kind kind n place) (group_at (length (operands_of net s)) place).size different in
+        let shelf : _ = shelved old (node_kind kind n place) (group_at (length (operands_of net s)) place).size different whole in
         let feeds : _ = feeds_there (group_at (length (operands_of net s)) place) shape.few (omega (arith, shape.ends, among)) in (
           shelf.0,
           record {
@@ -182,27 +182,27 @@ module _ (net : Netlist) (numbering : Numbering) (numbered : IsNumbering net num
       item : Item
       different : AreDifferent tables
       kept : Keeps old tables
-      words : All HasWords old → All HasWords tables
+      words : All HasWords tables
       made : IsMadeItem net timing numbering.names old tables key item
 
     -- an item that needs no table
-    plain_step : (old : List Table) (key : Key) (item : Item) → AreDifferent old → IsMadeItem net timing numbering.names old old key item → (tables : List Table) × IsStep old key tables
-    plain_step old key item different made = (old, record { item = item; different = different; kept = λ n table at. at; words = λ all. all; made = made })
+    plain_step : (old : List Table) (key : Key) (item : Item) → AreDifferent old → All HasWords old → IsMadeItem net timing numbering.names old old key item → (tables : List Table) × IsStep old key tables
+    plain_step old key item different whole made = (old, record { item = item; different = different; kept = λ n table at. at; words = whole; made = made })
 
-    by_driver : (old : List Table) (key : Key) (drives : Driver) → AreDifferent old → key.signal < length net.signals → key.place ≤ helpers_at net key.signal
+    by_driver : (old : List Table) (key : Key) (drives : Driver) → AreDifferent old → All HasWords old → key.signal < length net.signals → key.place ≤ helpers_at net key.signal
         → driver_at net key.signal ≡ Some drives → IsDrivable net key.signal drives → (tables : List Table) × IsStep old key tables
-    by_driver old key driver.Input different within among driven is =
-        plain_step old key (Input key.signal) different (made_input net timing numbering.names old key driven among)
-    by_driver old key (driver.BlockBit block bit) different within among driven is =
-        plain_step old key (BlockBit block bit) different (made_bit net timing numbering.names old key block bit driven among)
-    by_driver old key (driver.Dff op) different within among driven is =
-        plain_step old key (Latch (number_of op)) different (made_latch net timing numbering.names old key op (number_of op) driven among (own_found net numbering op numbered is))
-    by_driver old key (driver.Gate kind ops) different within among driven is =
+    by_driver old key driver.Input different whole within among driven is =
+        plain_step old key (Input key.signal) different whole (made_input net timing numbering.names old key driven among)
+    by_driver old key (driver.BlockBit block bit) different whole within among driven is =
+        plain_step old key (BlockBit block bit) different whole (made_bit net timing numbering.names old key block bit driven among)
+    by_driver old key (driver.Dff op) different whole within among driven is =
+        plain_step old key (Latch (number_of op)) different whole (made_latch net timing numbering.names old key op (number_of op) driven among (own_found net numbering op numbered is))
+    by_driver old key (driver.Gate kind ops) different whole within among driven is =
         let found : _ = driver_there net key.signal (driver.Gate kind ops) driven in
         let same : operands_of net key.signal ≡ ops = rw found.1 (rw found.2 refl) in
         let allowed : AllowsOperands kind (length (operands_of net key.signal)) = rw same is.0 in
         let there : All (IsSignal net) (operands_of net key.signal) = subst (All (IsSignal net)) (sym same) is.1 in
-        let step : _ = node_there (is_late net timing key.signal) key.signal within there old kind key.place different allowed among in (
+        let step : _ = node_there (is_late net timing key.signal) key.signal within there old kind key.place different whole allowed among in (
           step.0,
           record {
             item = step.1.item;
@@ -213,10 +213,10 @@ module _ (net : Netlist) (numbering : Numbering) (numbered : IsNumbering net num
           },
         )
 
-    step_there : (old : List Table) (key : Key) → AreDifferent old → key.signal < length net.signals → key.place ≤ helpers_at net key.signal → (tables : List Table) × IsStep old key tables
-    step_there old key different within among =
+    step_there : (old : List Table) (key : Key) → AreDifferent old → All HasWords old → key.signal < length net.signals → key.place ≤ helpers_at net key.signal → (tables : List Table) × IsStep old key tables
+    step_there old key different whole within among =
         let found : _ = member_at net.signals key.signal within in
-        by_driver old key found.0.driver different within among (rw found.1 refl) (valid.drivers key.signal found.0 found.1)
+        by_driver old key found.0.driver different whole within among (rw found.1 refl) (valid.drivers key.signal found.0 found.1)
 
     -- ---- all items
 
@@ -232,7 +232,7 @@ module _ (net : Netlist) (numbering : Numbering) (numbered : IsNumbering net num
     made_next keys n old before key there tables step = record {
       items = before.items ++ step.item ∷ [];
       different = step.different;
-      words = step.words before.words;
+      words = step.words;
       to = rw add-one at (made_more net timing numbering.names old tables keys n before.items key step.item before.to there step.kept step.made);
     }
 
@@ -249,7 +249,7 @@ module _ (net : Netlist) (numbering : Numbering) (numbered : IsNumbering net num
     made_to keys keyed (suc n) within =
         let before : _ = made_to keys keyed n (omega (arith, within)) in
         let key : _ = member_at keys n (omega (arith, within)) in
-        let step : _ = step_there before.0 key.0 before.1.different (keyed.signal n key.0 key.1) (keyed.place n key.0 key.1) in
+        let step : _ = step_there before.0 key.0 before.1.different before.1.words (keyed.signal n key.0 key.1) (keyed.place n key.0 key.1) in
         (step.0, made_next keys n before.0 before.1 key.0 key.1 step.0 step.1)
 
     pub all_made : (keys : List Key) → AreKeyed net keys → (tables : List Table) × (items : List Item) × AreDifferent tables × AreMade net timing numbering.names tables keys items × All HasWords tables
@@ -310,7 +310,7 @@ first_there net keys keyed = elim (first_to keys (length keys) (omega arith)) [
 
 -- ---- the items of a netlist
 
-pub items_there : (net : Netlist) (timing : Timing) (order : List ℕ) → IsValid net → IsOrder net timing order → (nodes : NodeNet) × AreItems net timing nodes × All HasWords nodes.tables
+pub items_there : (net : Netlist) (timing : Timing) (order : List ℕ) → IsValid net → IsOrder net timing order → (nodes : NodeNet) × IsMapped net timing nodes × All HasWords nodes.tables
 items_there net timing order valid is_order =
     let ranks : _ = own_there net timing order valid is_order in
     let keys : _ = keys_there net timing ranks.0 valid in

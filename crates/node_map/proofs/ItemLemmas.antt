@@ -12,7 +12,7 @@ use Rattle.func_table.specs.declared.table.Table.{Table}
 use Rattle.node_defs.specs.declared.items.Item.TheVariants.{Input, BlockBit, Node, Latch}
 use Rattle.node_defs.specs.Items.{own, IsNamed, IsNode, IsGateItem, IsItemOf, IsItem, StandFor, IsNodeBlock}
 use Rattle.node_defs.specs.declared.{groups.Group.Group, items.Feeds.Feeds, items.Item.Item, items.ItemName.ItemName, items.NodeBlock.NodeBlock}
-use Rattle.node_defs.specs.Groups.{group_at, helper_count}
+use Rattle.node_defs.specs.{Groups.group_at, Groups.helper_count, Order.IsNodeOf}
 use Rattle.node_map.specs.{declared.keys.Key.Key, code.Wires.operands_of, code.Wires.helpers_at, code.Places.name_at, code.Places.name_of, code.Tables.Keeps}
 use Rattle.node_map.specs.code.{Nodes.IsNodeAt, Nodes.node_kind, Made.driver_at, Made.IsMadeItem, Made.AreMade}
 use Rattle.node_map.proofs.{TableLemmas.get_front, TableLemmas.get_last, lemmas.ShapeLemmas.no_groups}
@@ -82,7 +82,8 @@ pub record MadeTo (net : Netlist) (timing : Timing) (names : List ItemName) (tab
   pub long : length items ≡ n
   pub few : length tables ≤ n
   pub each : (x : ℕ) (key : Key) (item : Item) → slice_get keys x ≡ Some key → slice_get items x ≡ Some item → IsItem net timing names tables (name_of net key) item
-  pub used : (t : ℕ) → t < length tables → (x : ℕ) × (feeds : Feeds) × (slice_get items x ≡ Some (Node t feeds))
+  pub used : (t : ℕ) → t < length tables → (x : ℕ) × IsNodeOf items x t
+  pub before : (x t u : ℕ) → IsNodeOf items x u → t < u → (y : ℕ) × (y < x) × IsNodeOf items y t
 
 pub made_begun : (net : Netlist) (timing : Timing) (names : List ItemName) (tables : List Table) (keys : List Key) → tables ≡ [] → MadeTo net timing names tables keys 0 []
 made_begun net timing names tables keys none = record {
@@ -90,6 +91,7 @@ made_begun net timing names tables keys none = record {
   few = omega (arith, ap length none);
   each = λ x key item at there. absurd (past x item (slice_get_within [] x item there));
   used = λ t within. absurd (low t within (ap length none));
+  before = λ x t u node less. absurd (past x (Node u node.feeds) (slice_get_within [] x (Node u node.feeds) node.is));
 } where
   past : (x : ℕ) (item : Item) → x < 0 → ⊥
   past x item below = omega (arith, below)
@@ -115,16 +117,33 @@ made_more net timing names old new keys n items key item to at kept made = recor
         rw same (rw last.1 made.is)
   ];
   used = λ t within. elim (cases_lt t (length old)) [
-    | inl h ↦ (let held : _ = to.used t h in (held.0, held.1, get_front items item (Node t held.1) held.0 held.2))
+    | inl h ↦ (let held : _ = to.used t h in (held.0, still held.0 t held.1))
     | inr h ↦
         let one : _ = made.new t h within in
-        (length items, one.0, slice_get-get_or (items ++ item ∷ []) (length items) item (omega (arith, length_push items item)) ∙ ap Some (get_or_push items item item (length items) refl ∙ one.1))
+        (length items, record { feeds = one.0; is = slice_get-get_or (items ++ item ∷ []) (length items) item (omega (arith, length_push items item)) ∙ ap Some (get_or_push items item item (length items) refl ∙ one.1) })
   ];
-}
+  before = λ x t u node less. elim (cases_lt x (length items)) [
+    | inl h ↦ (let earlier : _ = to.before x t u (was x u node h) less in (earlier.0, earlier.1, still earlier.0 t earlier.2))
+    | inr h ↦
+        let last : _ = get_last items item (Node u node.feeds) x h node.is in
+        let low : u < length new = made.there u node.feeds (sym last.1) in
+        let held : _ = to.used t (omega (arith, less, low, made.one)) in
+        let inside : held.0 < length items = slice_get_within items held.0 (Node t held.1.feeds) held.1.is in
+        (held.0, omega (arith, inside, h), still held.0 t held.1)
+  ];
+} where
+  still : (x t : ℕ) → IsNodeOf items x t → IsNodeOf (items ++ item ∷ []) x t
+  still x t node = record { feeds = node.feeds; is = get_front items item (Node t node.feeds) x node.is }
+
+  was : (x t : ℕ) → IsNodeOf (items ++ item ∷ []) x t → x < length items → IsNodeOf items x t
+  was x t node low = record {
+    feeds = node.feeds;
+    is = slice_get-get_or items x (Node t node.feeds) low ∙ ap Some (sym (get_or_append_left items (item ∷ []) (Node t node.feeds) x low) ∙ get_or_from_slice_get (items ++ item ∷ []) x (Node t node.feeds) (Node t node.feeds) node.is);
+  }
 
 pub made_all : (net : Netlist) (timing : Timing) (names : List ItemName) (tables : List Table) (keys : List Key) (n : ℕ) (items : List Item) → n ≡ length keys
     → MadeTo net timing names tables keys n items → AreMade net timing names tables keys items
-made_all net timing names tables keys n items whole to = record { long = to.long ∙ whole; each = to.each; used = to.used }
+made_all net timing names tables keys n items whole to = record { long = to.long ∙ whole; each = to.each; used = to.used; before = to.before }
 
 -- ---- one item
 
@@ -142,14 +161,15 @@ item_from net timing names tables name item signal at is = rw at is
 
 -- no table is new where none is added
 plain : (net : Netlist) (timing : Timing) (names : List ItemName) (tables : List Table) (key : Key) (item : Item) (drives : Driver) → driver_at net key.signal ≡ Some drives
-    → IsItemOf names tables (is_late net timing key.signal) key.signal drives (name_of net key).helper item → IsMadeItem net timing names tables tables key item
-plain net timing names tables key item drives driven is =
+    → IsItemOf names tables (is_late net timing key.signal) key.signal drives (name_of net key).helper item → ((t : ℕ) (feeds : Feeds) → item ≡ Node t feeds → ⊥) → IsMadeItem net timing names tables tables key item
+plain net timing names tables key item drives driven is other =
     let found : _ = driver_there net key.signal drives driven in
     record {
       is = item_from net timing names tables (name_of net key) item found.0 found.1
           (subst (λ d. IsItemOf names tables (is_late net timing key.signal) key.signal d (name_of net key).helper item) (sym found.2) is);
       new = λ t past within. absurd (low t past within);
       one = omega arith;
+      there = λ t feeds node. absurd (other t feeds node);
     } where
       low : (t : ℕ) → length tables ≤ t → t < length tables → ⊥
       low t past within = omega (arith, past, within)
@@ -165,17 +185,17 @@ no_helper net s place drives driven none among =
 pub made_input : (net : Netlist) (timing : Timing) (names : List ItemName) (tables : List Table) (key : Key) → driver_at net key.signal ≡ Some driver.Input → key.place ≤ helpers_at net key.signal
     → IsMadeItem net timing names tables tables key (Input key.signal)
 made_input net timing names tables key driven among =
-    plain net timing names tables key (Input key.signal) driver.Input driven (no_helper net key.signal key.place driver.Input driven refl among, refl)
+    plain net timing names tables key (Input key.signal) driver.Input driven (no_helper net key.signal key.place driver.Input driven refl among, refl) (λ t feeds is. cc is)
 
 pub made_bit : (net : Netlist) (timing : Timing) (names : List ItemName) (tables : List Table) (key : Key) (block bit : ℕ) → driver_at net key.signal ≡ Some (driver.BlockBit block bit) → key.place ≤ helpers_at net key.signal
     → IsMadeItem net timing names tables tables key (BlockBit block bit)
 made_bit net timing names tables key block bit driven among =
-    plain net timing names tables key (BlockBit block bit) (driver.BlockBit block bit) driven (no_helper net key.signal key.place (driver.BlockBit block bit) driven refl among, refl)
+    plain net timing names tables key (BlockBit block bit) (driver.BlockBit block bit) driven (no_helper net key.signal key.place (driver.BlockBit block bit) driven refl among, refl) (λ t feeds is. cc is)
 
 pub made_latch : (net : Netlist) (timing : Timing) (names : List ItemName) (tables : List Table) (key : Key) (op x : ℕ) → driver_at net key.signal ≡ Some (driver.Dff op) → key.place ≤ helpers_at net key.signal
     → IsNamed names x (own op) → IsMadeItem net timing names tables tables key (Latch x)
 made_latch net timing names tables key op x driven among named =
-    plain net timing names tables key (Latch x) (driver.Dff op) driven (no_helper net key.signal key.place (driver.Dff op) driven refl among, x, named, refl)
+    plain net timing names tables key (Latch x) (driver.Dff op) driven (no_helper net key.signal key.place (driver.Dff op) driven refl among, x, named, refl) (λ t feeds is. cc is)
 
 gate_named : (names : List ItemName) (tables : List Table) (late : Bool) (s : ℕ) (ops : List ℕ) (kind : Kind) (place : ℕ) (item : Item) → place ≤ helper_count (length ops)
     → IsNode names tables late s ops (node_kind kind (length ops) place) (group_at (length ops) place) item
@@ -203,6 +223,7 @@ made_gate net timing names old tables key kind ops item driven among node =
           (gate_named names tables (is_late net timing key.signal) key.signal (operands_of net key.signal) kind key.place item among node.is)));
       new = node.new;
       one = node.one;
+      there = node.there;
     }
 
 -- ---- memories

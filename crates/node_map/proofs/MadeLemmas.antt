@@ -10,7 +10,7 @@ use Rattle.net_defs.specs.{Steps.is_late, Loops.gate_operands}
 use Rattle.net_defs.specs.declared.netlist.Driver.TheVariants as driver
 use Rattle.func_table.specs.{declared.table.Table.Table, Shelf.AreDifferent}
 use Rattle.node_defs.specs.Items.{own, IsNamed, wire_name, wire_tag, feed_at, IsNode, IsGateItem, IsItemOf, IsItem, helpers_of, IsAmong, StandFor}
-use Rattle.node_defs.specs.Order.{class_of, rank_after_feed, rank_of, key_of, HelperBefore, Before, AreItems}
+use Rattle.node_defs.specs.Order.{class_of, rank_after_feed, rank_of, key_of, HelperBefore, Before, IsMapped}
 use Rattle.node_defs.specs.declared.items.{Tag.TheVariants.This, Tag.TheVariants.Last, Feed.TheVariants.From, Item.Item, ItemName.ItemName, NodeBlock.NodeBlock}
 use Rattle.node_defs.specs.Groups.{groups, group_at, helper_count}
 use Rattle.node_map.specs.code.Wires.{operands_of, helpers_at, class_of_driver, class_at, past_of, most_of, pasts_to, pasts_of, rank_at, AreOwnRanks}
@@ -300,23 +300,26 @@ module _ (net : Netlist) (timing : Timing) (ranks_own : List ℕ) (keys : List K
       let class : class_of item ≡ k.0.class = key_class x k.0 item k.1 there in
       ((λ is. (nodes_at x k.0 k.1).0 (sym class ∙ is)), (λ past. class ∙ (nodes_at x k.0 k.1).1 past))
 
-  -- what was made are the items of the netlist
+  -- the netlist is mapped to what was made
   pub made_items : (printed : List ℕ) (blocks : List NodeBlock) → AreDifferent tables → StandFor names printed net.printed → AreNodeBlocks names net.blocks blocks
-      → AreItems net timing (record { items = items; names = names; tables = tables; printed = printed; blocks = blocks; first_node = first_node })
+      → IsMapped net timing (record { items = items; names = names; tables = tables; printed = printed; blocks = blocks; first_node = first_node })
   made_items printed blocks different stand memories = record {
-    named = made.long ∙ sym (ap length names_are ∙ length-map keys (name_of net));
-    names = record { whole = whole; once = once };
-    right = λ x name item named there. (let k : _ = key_named x name named in subst (λ n. IsItem net timing names tables n item) k.2 (made.each x k.0 item k.1 there));
-    ranks = ranks;
-    ranked = ranked;
-    ordered = ordered;
-    first_node = first_of;
-    first_node_within = omega (arith, first_within, made.long);
-    tables = different;
-    tables_used = made.used;
-    printed = stand;
-    memories = memories.each;
-    blocks = memories.same;
+    items = record {
+      named = made.long ∙ sym (ap length names_are ∙ length-map keys (name_of net));
+      names = record { whole = whole; once = once };
+      right = λ x name item named there. (let k : _ = key_named x name named in subst (λ n. IsItem net timing names tables n item) k.2 (made.each x k.0 item k.1 there));
+      ranks = ranks;
+      ranked = ranked;
+      ordered = ordered;
+      first_node = first_of;
+      first_node_within = omega (arith, first_within, made.long);
+      tables = different;
+      tables_used = λ t within. (let node : _ = made.used t within in (node.0, node.1.feeds, node.1.is));
+      printed = stand;
+      memories = memories.each;
+      blocks = memories.same;
+    };
+    tables = record { different = different; used = made.used; before = λ x t u. made.before x t u };
   }
 
 -- after a node or latch stand nodes and latches

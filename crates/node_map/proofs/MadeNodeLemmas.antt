@@ -1,6 +1,6 @@
 -- The nodes of a gate as they are made.
-use Rattle.std.proofs.Common.{◌≡◌, ◌⊎◌, inl, inr, IsTrue, ℕ, zero, suc, ◌+◌, ◌-◌, ◌<◌, ◌≤◌, nat_lt, Bool, true, false, if◌then◌else◌, List, length, refl, sym, ap, arith}
-use Rattle.std.proofs.lemmas.Bool.{cases_lt, le-leb, le-ltb, Decides.nat_tests}
+use Rattle.std.proofs.Common.{◌≡◌, ◌⊎◌, inl, inr, IsTrue, ℕ, zero, suc, ◌+◌, ◌-◌, ◌<◌, ◌≤◌, nat_lt, Bool, true, false, if◌then◌else◌, List, length, refl, sym, ap, subst, arith}
+use Rattle.std.proofs.lemmas.{Bool.cases_lt, Bool.le-leb, Bool.le-ltb, Bool.Decides.nat_tests, Option.slice_get_within}
 use Rattle.logic_four.specs.{declared.V4.TheVariants.Zero, declared.Kind.Kind, Kinds.AllowsOperands, Folds.takes_many, Folds.base_kind}
 use Rattle.logic_four.proofs.lemmas.KindLemmas.{some_operands}
 use Rattle.func_table.specs.declared.table.Table.{Table}
@@ -77,7 +77,11 @@ made_node names old tables late s ops kind place table feeds has adds are = reco
     | inl more ↦ absurd (twice (adds (length old) (omega arith) (omega (arith, more))) (adds (length old + 1) (omega arith) more))
     | inr few ↦ few
   ];
+  there = λ t others is. (let here = slice_get_within tables table has.0 has.1 in subst (λ n. n < length tables) (number_in table t feeds others is) here);
 } where
+  number_in : (n m : ℕ) (f g : Feeds) → Node n f ≡ Node m g → n ≡ m
+  number_in n m f g same = cc
+
   twice : length old ≡ table → length old + 1 ≡ table → ⊥
   twice one other = omega (arith, one, other)
 

@@ -7,11 +7,12 @@ use Rattle.std.specs.{Prelude.Some, Prelude.slice_get, List.All}
 use Rattle.logic_four.specs.{declared.V4.V4, declared.Kind.Kind, Values.code_of, Values.value_of, Packed.packed_value}
 use Rattle.logic_four.proofs.lemmas.PackedLemmas.{code_in-replaced_same, code_in-replaced_other, value-set_same, value-set_other}
 use Rattle.logic_four.proofs.lemmas.CodeLemmas.{value_of-code_of, code_of_small}
-use Rattle.func_table.specs.Entries.{entry_of, entry_for, place_of, AreAlike, AreOther, IsTableOf}
+use Rattle.func_table.specs.Entries.{entry_of, entry_for, AreAlike, AreOther, HasWords, IsTableOf}
 use Rattle.func_table.specs.{declared.table.Table.Table, code.Entries.answer_at, Shelf.AreDifferent, Shelf.IsNumbered}
 use Rattle.func_table.proofs.EntryLemmas.{entries_more, entries_are_answers}
-use Rattle.list_laws.proofs.{Places.seam_at, Ranges.last_or}
-use Rattle.node_map.specs.{Words.HasWords, code.Tables.Keeps, code.Tables.AddsOnly, code.Tables.HasTable}
+use Rattle.list_laws.proofs.{Members.each, Places.seam_at, Ranges.last_or}
+use Rattle.func_table.proofs.OrderLemmas.{words_decide}
+use Rattle.node_map.specs.{code.Tables.Keeps, code.Tables.AddsOnly, code.Tables.HasTable}
 use Rattle.node_map.proofs.TableLemmas.{numbered_keeps, numbered_adds}
 
 -- ---- tables
@@ -64,11 +65,11 @@ words_to f (suc n) few =
     (new.0, new.1.as_long ∙ before.1, λ e below. entries_more f before.0 new.0 n before.2 new.1.here new.1.others e (omega (arith, below)), new.1.whole)
 
 -- there is a table of each kind
-table_of : (kind : Kind) (n : ℕ) → (table : Table) × IsTableOf kind n table × HasWords table
+table_of : (kind : Kind) (n : ℕ) → (table : Table) × IsTableOf kind n table
 unfolding entry_for entry_of
 table_of kind n =
     let all : _ = words_to (answer_at kind n) 256 (omega arith) in
-    (record { words = all.0 }, entries_are_answers kind n all.0 all.2, record { eight = all.1; words = all.3 })
+    (record { words = all.0 }, record { answers = entries_are_answers kind n all.0 all.2; words = record { eight = all.1; words = all.3 } })
 
 -- ---- equal tables
 
@@ -102,12 +103,6 @@ found_or (t ∷ tables) table = elim (alike_or t table) [
   ]
 ]
 
--- what is alike answers as the kind does
-alike_answers : (table other : Table) (kind : Kind) (n : ℕ) → AreAlike table other → IsTableOf kind n other → IsTableOf kind n table
-unfolding entry_for
-alike_answers table other kind n alike is a b c d =
-    alike (place_of a b c d) (omega (arith, code_of_small a, code_of_small b, code_of_small c, code_of_small d)) ∙ is a b c d
-
 -- ---- the shelf
 
 -- the tables with that of a kind among them
@@ -117,10 +112,10 @@ pub record IsShelved (old : List Table) (kind : Kind) (operands : ℕ) (new : Li
   pub kept : Keeps old new
   pub added : AddsOnly old new number
   pub has : HasTable new kind operands number
-  pub words : All HasWords old → All HasWords new
+  pub words : All HasWords new
 
-pub shelved : (old : List Table) (kind : Kind) (operands : ℕ) → AreDifferent old → (new : List Table) × IsShelved old kind operands new
-shelved old kind operands different =
+pub shelved : (old : List Table) (kind : Kind) (operands : ℕ) → AreDifferent old → All HasWords old → (new : List Table) × IsShelved old kind operands new
+shelved old kind operands different whole =
     let made : _ = table_of kind operands in
     elim (found_or old made.0) [
       | inl found ↦ (
@@ -130,8 +125,8 @@ shelved old kind operands different =
           different = different;
           kept = λ n table at. at;
           added = λ t past within. absurd (none t past within);
-          has = (found.1, found.2, alike_answers found.1 made.0 kind operands found.3 made.1);
-          words = λ all. all;
+          has = (made.0, found.2 ∙ ap Some (words_decide found.1 made.0 (each HasWords old found.0 found.1 whole found.2) made.1.words found.3), made.1);
+          words = whole;
         },
       )
       | inr others ↦
@@ -143,7 +138,7 @@ shelved old kind operands different =
               kept = numbered_keeps made.0 old (old ++ made.0 ∷ []) (length old) is;
               added = numbered_adds made.0 old (old ++ made.0 ∷ []) (length old) is;
               has = (made.0, seam_at old made.0 [], made.1);
-              words = λ all. All-push HasWords old made.0 all made.2;
+              words = All-push HasWords old made.0 whole made.1.words;
             },
           )
     ]

@@ -2,7 +2,7 @@
 
 ghost use Rattle.std.specs.Prelude.{ℕ, List as Items, IfOk};
 ghost use Rattle.net_defs.specs.{declared.stimulus.Stimulus.Stimulus, Steps.State, Valid.IsValid, Valid.IsValidTiming, Loops.AreRanks, Loops.IsOrder};
-ghost use Rattle.node_defs.specs.{Order.AreItems, Values.AreItemValues, Values.AreReferenceValues};
+ghost use Rattle.node_defs.specs.{Order.IsMapped, Values.AreItemValues, Values.AreReferenceValues};
 ghost use Rattle.node_map.specs.code.{Places.AreKeyed, Places.AreRight, Wires.AreOwnRanks};
 
 use crate::items::{find_references, first_node, make_items};
@@ -38,7 +38,7 @@ fn nodes_of(alloc: Global, net: &Netlist, timing: &Timing, keys: &[Key]) -> Resu
     requires timing { IsValidTiming timing.now }
     requires keyed { AreKeyed net.now keys.now }
     requires ranked { (own : Items ℕ) × AreOwnRanks net.now timing.now own × AreRight net.now timing.now own keys.now }
-    ensures { IfOk result (AreItems net.now timing.now) }
+    ensures { IfOk result (IsMapped net.now timing.now) }
 {
     let numbering = number_items(alloc, net, keys)?;
     let made = make_items(alloc, net, timing, &numbering, keys)?;
@@ -54,7 +54,8 @@ fn nodes_of(alloc: Global, net: &Netlist, timing: &Timing, keys: &[Key]) -> Resu
 }
 
 /// The items of a netlist in their order: inputs, memory outputs, and then nodes and registers, sorted
-/// by rank, signal and helper. Tables that are equal share a number.
+/// by rank, signal and helper. Tables that are equal share a number, and are numbered in the order in which
+/// the items first use them.
 pub fn map_nodes(
     alloc: Global,
     net: &Netlist,
@@ -64,7 +65,7 @@ pub fn map_nodes(
     requires valid { IsValid net.now }
     requires timing { IsValidTiming timing.now }
     requires ranked { AreRanks net.now timing.now ranks.now }
-    ensures items { IfOk result (AreItems net.now timing.now) }
+    ensures items { IfOk result (IsMapped net.now timing.now) }
     ensures values { IfOk result (λ nodes. (stimulus : Stimulus) (values : Items State)
         → AreItemValues nodes timing.now stimulus values → AreReferenceValues net.now timing.now stimulus nodes values) }
 {

@@ -11,7 +11,7 @@ use Rattle.image_check.proofs.ClaimLemmas.{claims_there}
 use Rattle.image_file.specs.Ranges.{tables_of}
 use Rattle.image_build.specs.{PortItems.IsAt, PortItems.ArePortItems, PortItems.ArePlanClaims, Built.IsBuilt}
 use Rattle.yse_compile.specs.{declared.compiler.Compiled.Compiled, Claims.IsPlaced, Claims.AreClaimsOf}
-use Rattle.node_map.specs.Words.{HasWords}
+use Rattle.func_table.specs.Entries.{HasWords}
 
 module _ (nodes : NodeNet) (homes : Homes) (slots : List ℕ) where
   one_port : (p : ℕ) (xs ys : List ℕ) → ArePortItems nodes homes slots p xs → ArePortItems nodes homes slots p ys → xs ≡ ys

@@ -6,12 +6,11 @@ use Rattle.std.proofs.lemmas.{Bool.cases_eq, Bool.cases_lt, List.Elements.All-ni
 use Rattle.std.proofs.lemmas.Option.{slice_get_within, slice_get-get_or}
 use Rattle.std.specs.{Prelude.Some, Prelude.slice_get, List.All}
 use Rattle.list_laws.proofs.{Members.each, Members.each_push, Members.member_at, Places.seam_at, Ranges.last_or}
-use Rattle.func_table.specs.{declared.table.Table.Table, Entries.AreAlike, Entries.AreOther, Shelf.AreDifferent}
-use Rattle.func_table.proofs.EntryLemmas.{same_table}
+use Rattle.func_table.specs.{declared.table.Table.Table, Entries.AreAlike, Entries.AreOther, Entries.HasWords, Shelf.AreDifferent}
+use Rattle.func_table.proofs.OrderLemmas.{words_decide}
 use Rattle.net_defs.specs.{declared.timing.Timing.Timing, Valid.IsValidTiming}
 use Rattle.node_defs.specs.declared.items.Item.TheVariants.{Input, BlockBit, Node, Latch}
 use Rattle.node_defs.specs.{declared.items.Item.Item, declared.items.NodeNet.NodeNet, WellFormed.column_count, WellFormed.IsComputed, WellFormed.NamesParts}
-use Rattle.node_map.specs.Words.{HasWords}
 use Rattle.plan_defs.specs.{declared.plan.Homes.Homes, declared.plan.Plan.Plan, declared.switch.Switch.Switch, Homes.home_of, Homes.host_of, Homes.ports_of}
 use Rattle.plan_defs.specs.{Slots.slot_of, Switches.IsSwitch}
 use Rattle.plan_defs.proofs.lemmas.PlanLemmas.{one_at_home}
@@ -93,11 +92,6 @@ module _ {nodes : NodeNet} {homes : Homes} {plan : Plan} (planned : IsPlanned no
     by (Latch op) is = absurd is
 
 -- ---- tasks and their tables
-
--- tables of eight words with the same entries are one
-pub words_decide : (s t : Table) → HasWords s → HasWords t → AreAlike s t → s ≡ t
-words_decide s t mine theirs =
-    same_table s t mine.eight theirs.eight (λ k low. mine.words k 0 (let eight = mine.eight in omega (arith, low, eight))) (λ k low. theirs.words k 0 (let eight = theirs.eight in omega (arith, low, eight)))
 
 -- a table is among these or differs from each
 found_or : (tables : List Table) (table : Table) → All HasWords tables → HasWords table → ((n : ℕ) × (slice_get tables n ≡ Some table)) ⊎ All (λ t. AreOther t table) tables

@@ -6,7 +6,8 @@ use Rattle.std.specs.Option.{option_map}
 use Rattle.event_defs.specs.Linked.{AreLinkedAlike}
 use Rattle.net_defs.specs.declared.{netlist.Netlist.Netlist, timing.Timing.Timing}
 use Rattle.node_defs.specs.{declared.items.NodeNet.NodeNet, Same.AreSameItems, WellFormed.column_count}
-use Rattle.node_map.specs.Words.{HasWords}
+use Rattle.func_table.specs.Entries.{HasWords}
+use Rattle.func_table.proofs.OrderLemmas.{words_decide}
 use Rattle.plan_defs.specs.{declared.plan.Homes.Homes, declared.plan.Plan.Plan, Slots.IsFirstFitPlan}
 use Rattle.image_defs.specs.declared.image.{Work.Work, Work.TheVariants.Logic, Work.TheVariants.Array, Work.TheVariants.Host, Image.Image}
 use Rattle.image_defs.specs.{Places.Each, declared.file.Claims.Claims, declared.file.PortClaims.PortClaims, Claimed.lists_of}
@@ -14,7 +15,7 @@ use Rattle.image_file.specs.Ranges.{tables_of}
 use Rattle.image_build.specs.{PortItems.ArePlanClaims, Built.IsBuilt, Built.IsOrdered}
 use Rattle.image_build.proofs.{OneImage.IsBuiltBy, OneImage.AreAll, OneImage.one_built, PlacedLemmas.same_by}
 use Rattle.yse_compile.specs.{declared.compiler.Compiled.Compiled, Claims.AreClaimsOf}
-use Rattle.yse_compile.proofs.{ClaimLemmas.one_claims, ImageExists.words_decide, lemmas.SamePlans.plan_kept}
+use Rattle.yse_compile.proofs.{ClaimLemmas.one_claims, lemmas.SamePlans.plan_kept}
 
 -- claims of the same lists are the same
 same_claims : (one other : Claims) → lists_of one ≡ lists_of other → one ≡ other

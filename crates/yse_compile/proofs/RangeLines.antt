@@ -16,7 +16,7 @@ use Rattle.image_lines.specs.declared.line.Line.{Line}
 use Rattle.image_lines.specs.declared.line.Line.TheVariants as line
 use Rattle.image_file.specs.Files.{sizes_of, kind_of, claimed, work_lines, port_lines, all_port_lines, file_lines}
 use Rattle.image_file.specs.Ranges.{tables_of}
-use Rattle.node_map.specs.Words.{HasWords}
+use Rattle.func_table.specs.Entries.{HasWords}
 
 -- ---- lists
 

@@ -5,7 +5,7 @@ use Rattle.limits.specs.declared.TheConstants.{MAX_FUNCTIONS}
 use Rattle.list_laws.proofs.{Places.place_of, Members.member_at, Options.one_some}
 use Rattle.machine_text.specs.{declared.machine.Limited.TheVariants.Functions, declared.machine.Machine.Machine, Machines.IsValid}
 use Rattle.machine_text.proofs.lemmas.LimitLemmas.{limit_in_range}
-use Rattle.func_table.specs.{declared.table.Table.Table, Entries.AreAlike, Entries.entry_of}
+use Rattle.func_table.specs.{declared.table.Table.Table, Entries.AreAlike, Entries.entry_of, Shelf.AreInOrderOfUse}
 use Rattle.node_defs.specs.declared.items.Item.TheVariants.{Input, BlockBit, Node, Latch}
 use Rattle.node_defs.specs.declared.items.{Item.Item, NodeNet.NodeNet}
 use Rattle.plan_defs.specs.{declared.plan.Homes.Homes, Homes.home_of, Tables.UsesTable, Tables.FitsTables}
@@ -15,7 +15,7 @@ use Rattle.image_defs.specs.declared.image.{Source.Source, Task.Task, Task.TheVa
 use Rattle.image_defs.specs.declared.image.{Work.TheVariants.Logic, Work.TheVariants.Array, Work.TheVariants.Host, Image.Image}
 use Rattle.image_defs.specs.Places.{item_slots, task_slot}
 use Rattle.image_file.specs.Ranges.{tables_of}
-use Rattle.image_build.specs.Built.{Evaluates, AreInOrderOfUse, IsOrdered}
+use Rattle.image_build.specs.Built.{Evaluates, IsOrdered}
 
 -- table number n of a port is that of a node at the port
 record IsOfNode (nodes : NodeNet) (homes : Homes) (p : ℕ) (tables : List Table) (n : ℕ) : Type 0 where
@@ -47,7 +47,7 @@ module _ (nodes : NodeNet) (homes : Homes) (machine : Machine) (image : Image) (
     (at_home : (i x : ℕ) → IsClaim claims p i x → home_of homes x ≡ p) where
   module _ (tables : List Table) (tasks : List Task) (as_many : length (claims_of claims p) ≡ length tasks)
       (items : (i x : ℕ) → IsClaim claims p i x → (item : Item) × (slice_get nodes.items x ≡ Some item) × Implements image claims nodes p ins (Logic tables tasks) i item)
-      (order : AreInOrderOfUse tables tasks) (fits : FitsTables nodes homes machine p) where
+      (order : AreInOrderOfUse (Evaluates tasks) tables) (fits : FitsTables nodes homes machine p) where
     of_node : (n : ℕ) → n < length tables → IsOfNode nodes homes p tables n
     of_node n low =
         let used : (i : ℕ) × Evaluates tasks i n = order.used n low in

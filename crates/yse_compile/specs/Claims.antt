@@ -6,7 +6,7 @@ use Rattle.plan_defs.specs.{Homes.AreHomes, Slots.slot_of, Slots.IsFirstFitPlan,
 use Rattle.image_defs.specs.{declared.image.PortImage.PortImage, Places.Each, Places.IsPort, Places.item_slots, Matches.claims_of, Matches.Matches}
 use Rattle.image_defs.specs.{declared.file.Claims.Claims, Claimed.lists_of, Claimed.HasClaims}
 use Rattle.image_file.specs.Ranges.{tables_of}
-use Rattle.node_map.specs.Words.{HasWords}
+use Rattle.func_table.specs.Entries.{HasWords}
 use Rattle.image_build.specs.{PortItems.ArePlanClaims, Built.IsBuilt}
 use Rattle.yse_compile.specs.declared.compiler.Compiled.{Compiled}
 

@@ -9,7 +9,7 @@ ghost use Rattle.home_pick.specs.{Better.IsBetter, declared.pick.HomeNo.HomeNo, 
 ghost use Rattle.net_defs.specs.declared.{homes.HomeChoice.HomeChoice, netlist.Netlist.Netlist, timing.Timing.Timing};
 ghost use Rattle.net_defs.specs.Valid.{IsValid, IsValidTiming};
 ghost use Rattle.node_defs.specs.{declared.items.NodeNet.NodeNet, Order.AreItems, WellFormed.IsWellFormed};
-ghost use Rattle.node_map.specs.Words.{HasWords};
+ghost use Rattle.func_table.specs.Entries.{HasWords};
 ghost use Rattle.plan_defs.specs.{declared.plan.Homes.Homes, declared.plan.Plan.Plan, declared.switch.Switch.Switch, Homes.AreHomes};
 ghost use Rattle.plan_defs.specs.{Picks.ArePicked, Picks.FindsNoPort, Picks.HasTooManyNodes, Slots.IsFirstFitPlan, Switches.IsSwitch, Tables.UsesTables};
 ghost use Rattle.slot_plan.specs.{declared.fit.PlanNo.PlanNo, Refusals.IsCrowded, Refusals.IsLong, Refusals.IsRight as LacksPlan};

@@ -3,7 +3,7 @@
 
 ghost use Rattle.image_defs.specs.Places.{Each};
 ghost use Rattle.image_file.specs.Ranges.{tables_of};
-ghost use Rattle.node_map.specs.Words.{HasWords};
+ghost use Rattle.func_table.specs.Entries.{HasWords};
 
 use func_table::Table;
 use image_defs::{Image, PortImage, Work};

@@ -1,7 +1,7 @@
 -- How each part of an image is laid out: from which slots a port takes values, and what it does.
 use Rattle.std.specs.Prelude.{◌≡◌, ℕ, ◌==◌, ◌<◌, ◌≤◌, Bool, true, false, if◌then◌else◌, List, length, map, Some, slice_get}
 use Rattle.net_defs.specs.declared.timing.Timing.{Timing}
-use Rattle.func_table.specs.declared.table.Table.{Table}
+use Rattle.func_table.specs.{declared.table.Table.Table, Shelf.AreInOrderOfUse}
 use Rattle.node_defs.specs.declared.items.{Feed.Feed, Feed.TheVariants.From, Feed.TheVariants.Fixed, Item.Item, NodeBlock.NodeBlock, NodeNet.NodeNet}
 use Rattle.node_defs.specs.WellFormed.{column_count}
 use Rattle.node_defs.specs.declared.items.Item.TheVariants as item
@@ -11,7 +11,7 @@ use Rattle.image_defs.specs.declared.image.{Work.TheVariants.Logic, Work.TheVari
 use Rattle.image_defs.specs.{Places.IsPort, Matches.claims_of, Matches.is_last}
 use Rattle.plan_defs.specs.declared.{plan.Homes.Homes, plan.Plan.Plan, switch.PortLinks.PortLinks, switch.Switch.Switch}
 use Rattle.plan_defs.specs.{Homes.home_of, Homes.host_of, Homes.ports_of, Slots.slot_of}
-use Rattle.image_build.specs.{PortItems.ArePlanClaims, Built.AreInOrderOfUse, Built.ArePortMemories, Built.AreLinksOf}
+use Rattle.image_build.specs.{PortItems.ArePlanClaims, Built.Evaluates, Built.ArePortMemories, Built.AreLinksOf}
 
 -- where port p takes item o from: its own slot where the item is at home, else what it receives
 abbrev pub source_of : Homes → List ℕ → ℕ → ℕ → Bool → Source
@@ -80,7 +80,7 @@ AreInputs nodes slots items inputs = AreMadeFor nodes (IsInputFor slots) items i
 -- what port p does for its items
 abbrev pub IsWorkFor : NodeNet → Homes → List ℕ → ℕ → List ℕ → Work → Type 0
 IsWorkFor nodes homes slots p items (Logic tables tasks) =
-    (p < homes.logic) × AreTasks nodes homes slots p items tables tasks × AreInOrderOfUse tables tasks
+    (p < homes.logic) × AreTasks nodes homes slots p items tables tasks × AreInOrderOfUse (Evaluates tasks) tables
 IsWorkFor nodes homes slots p items (Array blocks outs) =
     (homes.logic ≤ p) × (p < host_of homes) × (numbers : List ℕ) × ArePortMemories nodes homes p numbers
     × AreBlocks nodes homes slots p numbers blocks × AreBits nodes slots items numbers outs

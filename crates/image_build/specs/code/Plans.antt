@@ -1,13 +1,13 @@
 -- Beside specs/Plans.antt, what only private functions and proofs cite.
 use Rattle.std.specs.Prelude.{◌≡◌, ℕ, ◌<◌, ◌≤◌, List, length, take, Some, slice_get, slice_index, Contains}
-use Rattle.func_table.specs.{declared.table.Table.Table, Shelf.IsNumbered}
+use Rattle.func_table.specs.{declared.table.Table.Table, Shelf.AreInOrderOfUse, Shelf.IsNumbered}
 use Rattle.node_defs.specs.declared.items.Item.TheVariants.{Input, BlockBit, Node, Latch}
 use Rattle.node_defs.specs.declared.items.{Item.Item, NodeNet.NodeNet}
 use Rattle.image_defs.specs.declared.image.{Task.Task, Task.TheVariants.Eval, Task.TheVariants.Hold, OutBit.OutBit, PortImage.PortImage}
 use Rattle.image_defs.specs.Matches.{claims_of}
 use Rattle.plan_defs.specs.declared.{plan.Homes.Homes, plan.Plan.Plan, switch.PortLinks.PortLinks, switch.Switch.Switch}
 use Rattle.plan_defs.specs.{Homes.block_home, Homes.ports_of, code.Lists.ListsBelow, Slots.slot_of}
-use Rattle.image_build.specs.{declared.memories.Memories.Memories, PortItems.IsAt, Built.ArePortMemories, Built.AreInOrderOfUse, Built.AreLinksOf}
+use Rattle.image_build.specs.{declared.memories.Memories.Memories, PortItems.IsAt, Built.ArePortMemories, Built.Evaluates, Built.AreLinksOf}
 use Rattle.image_build.specs.code.Layouts.{AreTasks, IsWorkFor}
 use Rattle.switch_set.specs.Links.{IsSlotList}
 
@@ -44,7 +44,7 @@ Shelves old new (Hold slot from) = new ≡ old
 -- the tasks of the first so many items, and their tables
 pub record AreFirstTasks (nodes : NodeNet) (homes : Homes) (slots : List ℕ) (p k : ℕ) (items : List ℕ) (tables : List Table) (tasks : List Task) : Type 0 where
   pub tasks_are : AreTasks nodes homes slots p (take k items) tables tasks
-  pub in_order : AreInOrderOfUse tables tasks
+  pub in_order : AreInOrderOfUse (Evaluates tasks) tables
   pub few : length tables ≤ k
 
 -- the memories of each port in their order, and for each memory its place among those of its port

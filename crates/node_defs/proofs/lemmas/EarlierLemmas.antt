@@ -2,14 +2,15 @@
 use Rattle.std.proofs.Common.{◌≡◌, ◌∙◌, ◌⊎◌, inl, inr, ℕ, ◌+◌, ◌<◌, ◌≤◌, Bool, List, length, get_or, refl, sym, ap, subst, arith}
 use Rattle.std.proofs.lemmas.{Bool.cases_lt, Bool.le-ltb, Option.slice_get_within}
 use Rattle.std.specs.Prelude.{Option, Some, None, slice_get}
-use Rattle.list_laws.proofs.Members.{member_at}
+use Rattle.list_laws.proofs.{Members.member_at, Options.one_some}
+use Rattle.func_table.specs.{declared.table.Table.Table, Entries.HasWords}
 use Rattle.logic_four.specs.declared.{V4.TheVariants.Zero, Kind.Kind}
 use Rattle.net_defs.specs.{declared.netlist.Netlist.Netlist, declared.netlist.Driver.Driver, declared.timing.Timing.Timing, Steps.is_late}
 use Rattle.net_defs.specs.declared.netlist.Driver.TheVariants as driver
 use Rattle.node_defs.specs.Items.{wire_name, wire_tag, feed_at, IsNode, IsItemOf}
 use Rattle.node_defs.specs.Order.{class_of, rank_after_feed, rank_of, Key, key_of, Before, AreItems}
 use Rattle.node_defs.specs.declared.{groups.Group.Group, items.Tag.Tag, items.Tag.TheVariants.This, items.Feed.TheVariants.From, items.Feed.TheVariants.Fixed}
-use Rattle.node_defs.specs.declared.items.{Feeds.Feeds, Item.Item, Item.TheVariants.Input, Item.TheVariants.BlockBit, Item.TheVariants.Node, ItemName.ItemName}
+use Rattle.node_defs.specs.declared.items.{Feeds.Feeds, Item.Item, Item.TheVariants.Node, ItemName.ItemName}
 use Rattle.node_defs.specs.declared.items.NodeNet.{NodeNet}
 use Rattle.node_defs.proofs.lemmas.NameLemmas.{name_at, named_item}
 
@@ -57,26 +58,39 @@ module _ (net : Netlist) (timing : Timing) (nodes : NodeNet) (are : AreItems net
       let named = named_item net timing nodes are x (Node table feeds) at in
       in_driver (is_late net timing (name_at nodes x).signal) (name_at nodes x).signal named.signal.driver (name_at nodes x).helper table feeds i y tag named.is from
 
-  -- the table of a node is there
+  -- the table of a node is there, and is the table of a kind
+  abbrev IsTable : ℕ → Type 0
+  IsTable table = (t : Table) × (slice_get nodes.tables table ≡ Some t) × HasWords t
+
   table_in_node : (late : Bool) (s : ℕ) (ops : List ℕ) (kind : Kind) (group : Group) (table : ℕ) (feeds : Feeds)
-      → IsNode nodes.names nodes.tables late s ops kind group (Node table feeds) → table < length nodes.tables
+      → IsNode nodes.names nodes.tables late s ops kind group (Node table feeds) → IsTable table
   table_in_node late s ops kind group table feeds node =
-      rw (← one_table node.table node.feeds node.is) (slice_get_within nodes.tables node.table node.answers.0 node.answers.1) where
+      subst IsTable (one_table node.table node.feeds node.is) (node.answers.0, node.answers.1, node.answers.2.words) where
         one_table : (t : ℕ) (f : Feeds) → Node table feeds ≡ Node t f → t ≡ table
         one_table t f same = cc
 
   table_in_driver : (late : Bool) (s : ℕ) (d : Driver) (helper : Option ℕ) (table : ℕ) (feeds : Feeds)
-      → IsItemOf nodes.names nodes.tables late s d helper (Node table feeds) → table < length nodes.tables
+      → IsItemOf nodes.names nodes.tables late s d helper (Node table feeds) → IsTable table
   table_in_driver late s driver.Input helper table feeds item = cc item.1
   table_in_driver late s (driver.Dff op) helper table feeds item = cc item.3
   table_in_driver late s (driver.BlockBit block bit) helper table feeds item = cc item.1
   table_in_driver late s (driver.Gate kind ops) None table feeds item = table_in_node late s ops kind _ table feeds item
   table_in_driver late s (driver.Gate kind ops) (Some h) table feeds item = table_in_node late s ops _ _ table feeds item.1
 
-  pub table_there : (x table : ℕ) (feeds : Feeds) → slice_get nodes.items x ≡ Some (Node table feeds) → table < length nodes.tables
-  table_there x table feeds at =
+  pub table_told : (x table : ℕ) (feeds : Feeds) → slice_get nodes.items x ≡ Some (Node table feeds) → IsTable table
+  table_told x table feeds at =
       let named = named_item net timing nodes are x (Node table feeds) at in
       table_in_driver (is_late net timing (name_at nodes x).signal) (name_at nodes x).signal named.signal.driver (name_at nodes x).helper table feeds named.is
+
+  pub table_there : (x table : ℕ) (feeds : Feeds) → slice_get nodes.items x ≡ Some (Node table feeds) → table < length nodes.tables
+  table_there x table feeds at = let told = table_told x table feeds at in slice_get_within nodes.tables table told.0 told.1
+
+  -- each table has its words
+  pub table_words : (n : ℕ) (table : Table) → slice_get nodes.tables n ≡ Some table → HasWords table
+  table_words n table at =
+      let used = are.tables_used n (slice_get_within nodes.tables n table at) in
+      let told = table_told used.0 n used.1 used.2 in
+      subst HasWords (one_some told.0 table (sym told.1 ∙ at)) told.2
 
   -- an operand that is taken at this turn stands before the node
   pub earlier : (x table : ℕ) (feeds : Feeds) (i y : ℕ) → slice_get nodes.items x ≡ Some (Node table feeds) → feed_at feeds i ≡ From y This → y < x

@@ -3,7 +3,7 @@ use Rattle.std.specs.Prelude.{◌≡◌, ℕ, ◌+◌, ◌<◌, ◌≤◌, List,
 use Rattle.net_defs.specs.declared.{netlist.Netlist.Netlist, netlist.Block.Block, netlist.Driver.Driver, timing.Timing.Timing}
 use Rattle.func_table.specs.declared.table.Table.{Table}
 use Rattle.node_defs.specs.declared.items.{Feeds.Feeds, Item.Item, Item.TheVariants.Node, ItemName.ItemName, NodeBlock.NodeBlock}
-use Rattle.node_defs.specs.Items.{IsItem, IsNodeBlock}
+use Rattle.node_defs.specs.{Items.IsItem, Items.IsNodeBlock, Order.IsNodeOf}
 use Rattle.node_map.specs.{declared.keys.Key.Key, code.Places.name_of}
 
 -- the driver of a signal
@@ -15,12 +15,14 @@ pub record IsMadeItem (net : Netlist) (timing : Timing) (names : List ItemName) 
   pub is : IsItem net timing names tables (name_of net key) item
   pub new : (t : ℕ) → length old ≤ t → t < length tables → (feeds : Feeds) × (item ≡ Node t feeds)
   pub one : length tables ≤ length old + 1
+  pub there : (t : ℕ) (feeds : Feeds) → item ≡ Node t feeds → t < length tables
 
--- there is an item for each key, and a node for each table
+-- there is an item for each key, and a node for each table, which comes after all nodes of those before it
 pub record AreMade (net : Netlist) (timing : Timing) (names : List ItemName) (tables : List Table) (keys : List Key) (items : List Item) : Type 0 where
   pub long : length items ≡ length keys
   pub each : (x : ℕ) (key : Key) (item : Item) → slice_get keys x ≡ Some key → slice_get items x ≡ Some item → IsItem net timing names tables (name_of net key) item
-  pub used : (t : ℕ) → t < length tables → (x : ℕ) × (feeds : Feeds) × (slice_get items x ≡ Some (Node t feeds))
+  pub used : (t : ℕ) → t < length tables → (x : ℕ) × IsNodeOf items x t
+  pub before : (x t u : ℕ) → IsNodeOf items x u → t < u → (y : ℕ) × (y < x) × IsNodeOf items y t
 
 -- memory for memory, by the numbers of items
 pub record AreNodeBlocks (names : List ItemName) (memories : List Block) (blocks : List NodeBlock) : Type 0 where

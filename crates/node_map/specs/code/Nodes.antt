@@ -25,3 +25,4 @@ pub record IsNodeAt (names : List ItemName) (old tables : List Table) (late : Bo
   pub is : IsNode names tables late s ops (node_kind kind (length ops) place) (group_at (length ops) place) item
   pub new : (t : ℕ) → length old ≤ t → t < length tables → (feeds : Feeds) × (item ≡ Node t feeds)
   pub one : length tables ≤ length old + 1
+  pub there : (t : ℕ) (feeds : Feeds) → item ≡ Node t feeds → t < length tables

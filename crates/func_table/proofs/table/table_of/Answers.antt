@@ -13,4 +13,7 @@ entries-preserved c = record {
 
 pub returns : goal.returns
 unfolding entry_for entry_of
-returns c = entries_are_answers c.args.kind c.args.operands c.entries.words (λ e h. c.entries.invariant.entries e (omega arith))
+returns c = record {
+  answers = entries_are_answers c.args.kind c.args.operands c.entries.words (λ e h. c.entries.invariant.entries e (omega arith));
+  words = c.has_words.ensures;
+}

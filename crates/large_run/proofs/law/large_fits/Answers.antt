@@ -10,7 +10,7 @@ returns c gates few = elim (c.order_or_loop.ensures.one (large_netlist gates) la
   | inr loop ↦ absurd (no_circle_large gates large_timing loop.0 loop.1.circle)
   | inl order ↦
       let items = c.items_exist.ensures (large_netlist gates) large_timing order.0 (valid_large gates few) order.1 in
-      elim (c.fits_or_refused.ensures (large_netlist gates) large_machine large_timing items.0 (valid_large gates few) machine_valid (no_circle_large gates large_timing) items.1) [
+      elim (c.fits_or_refused.ensures (large_netlist gates) large_machine large_timing items.0 (valid_large gates few) machine_valid (no_circle_large gates large_timing) items.1.items) [
         | inl fits ↦ fits
         | inr refused ↦ absurd (never refused.0 refused.1 refused.2)
       ]

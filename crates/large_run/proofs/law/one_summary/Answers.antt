@@ -34,8 +34,8 @@ returns-clause-some c gates cycles few =
 
 pub returns-clause-one : goal.returns-clause-one
 returns-clause-one c gates cycles one other few a b =
-    let there = c.one_list.ensures (large_netlist gates) large_timing a.nodes b.nodes a.items b.items in
-    let back = c.one_list.ensures (large_netlist gates) large_timing b.nodes a.nodes b.items a.items in
+    let there = c.one_list.ensures.same (large_netlist gates) large_timing a.nodes b.nodes a.items b.items in
+    let back = c.one_list.ensures.same (large_netlist gates) large_timing b.nodes a.nodes b.items a.items in
     let homes = c.one_homes.ensures (large_netlist gates) large_machine large_timing a.nodes b.nodes a.items b.items a.homes b.homes a.picked b.picked in
     let need = c.one_need.ensures (large_netlist gates) large_machine large_timing a.nodes b.nodes (valid_large gates few) a.items b.items a.homes b.homes a.picked b.picked a.plan b.plan a.first_fit b.first_fit in
     let crossed = crossings_kept a.nodes b.nodes b.homes a.crossings there back (subst (λ h. AreCrossings a.nodes h a.crossings) homes a.crossed) in

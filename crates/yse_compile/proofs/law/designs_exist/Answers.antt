@@ -10,7 +10,7 @@ returns c choice net machine timing nodes valid machine_valid timing_valid items
     let switch = c.switch_exists.ensures nodes homes plan planned.formed planned.housed planned.first_fit in
     let image = c.images_exist.ensures nodes homes plan switch.0 timing planned words switch.1 timing_valid in
     (switch.0, image.0, image.1, switch.1, image.2, image.3))
-    (λ others are. c.one_list.ensures net timing others nodes are items) (λ others are. c.one_list.ensures net timing nodes others items are)
+    (λ others are. c.one_list.ensures.same net timing others nodes are items) (λ others are. c.one_list.ensures.same net timing nodes others items are)
     (λ start. c.some_better.ensures nodes machine start) (λ start. c.one_better.ensures nodes machine start)
     (λ homes housed. elim (c.planned_or_refused.ensures.some nodes machine homes formed housed) [
       | inl fit ↦ inl fit

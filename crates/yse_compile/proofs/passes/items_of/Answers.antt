@@ -5,7 +5,7 @@ pub map_nodes-requires-clause-ranked : goal.map_nodes-requires-clause-ranked
 map_nodes-requires-clause-ranked c = c.in-Ok.ensures.ranks
 
 pub returns-in-Ok-map_nodes-clause-items : goal.returns-in-Ok-map_nodes-clause-items
-returns-in-Ok-map_nodes-clause-items c = c.in-Ok-map_nodes.ensures.items
+returns-in-Ok-map_nodes-clause-items c = c.in-Ok-map_nodes.ensures.items.items
 
 pub returns-in-Ok-clause-either : goal.returns-in-Ok-clause-either
 returns-in-Ok-clause-either c = λ machine either. refl
@@ -18,4 +18,4 @@ pub returns-in-Ok-map_nodes-clause-acyclic : goal.returns-in-Ok-map_nodes-clause
 returns-in-Ok-map_nodes-clause-acyclic c = c.in-Ok.ensures.acyclic
 
 pub returns-in-Ok-map_nodes-clause-formed : goal.returns-in-Ok-map_nodes-clause-formed
-returns-in-Ok-map_nodes-clause-formed c = c.items_are_well_formed.ensures c.args.net.now c.args.timing.now c.in-Ok-map_nodes.nodes c.requires.net c.in-Ok-map_nodes.ensures.items
+returns-in-Ok-map_nodes-clause-formed c = c.items_are_well_formed.ensures c.args.net.now c.args.timing.now c.in-Ok-map_nodes.nodes c.requires.net c.in-Ok-map_nodes.ensures.items.items

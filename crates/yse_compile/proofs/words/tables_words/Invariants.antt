@@ -1,5 +1,5 @@
 use Rattle.image_check.proofs.lemmas.EachLemmas.{EachBelow}
-use Rattle.node_map.specs.Words.{HasWords}
+use Rattle.func_table.specs.Entries.{HasWords}
 use Rattle.yse_compile.proofs.words.tables_words.Given as goal
 
 abbrev pub invariant-tables : goal.invariant-tables

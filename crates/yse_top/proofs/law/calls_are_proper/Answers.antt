@@ -450,17 +450,17 @@ returns c =
       faults_lists = c.reads_or_faults-8.ensures.reader;
       stuck = c.reads_as_faults.ensures;
       accepted = λ net timing file valid acyclic has. accepted_check net timing file (λ one other items items_too.
-          interchangeable file timing one other (c.one_list.ensures net timing one other items items_too) (c.items_are_well_formed.ensures net timing other valid items_too)
+          interchangeable file timing one other (c.one_list.ensures.same net timing one other items items_too) (c.items_are_well_formed.ensures net timing other valid items_too)
           (c.same_inputs.ensures net timing one valid items ∙ sym (c.same_inputs.ensures net timing other valid items_too)))
           (λ nodes. c.matches_or_not.ensures.one file nodes timing)
           (elim (c.order_or_loop.ensures.one net timing) [
-            | inl (order, is) ↦ (let items = c.items_exist.ensures net timing order valid is in record { nodes = items.0; items = items.1; answer = c.matches_or_not.ensures.some file items.0 timing has })
+            | inl (order, is) ↦ (let items = c.items_exist.ensures net timing order valid is in record { nodes = items.0; items = items.1.items; answer = c.matches_or_not.ensures.some file items.0 timing has })
             | inr (loop, is) ↦ absurd (acyclic loop is.circle)
           ]);
       designs = λ choice net machine timing valid machine_valid timely acyclic fits. elim (c.order_or_loop.ensures.one net timing) [
         | inl (order, is) ↦ (
             let items = c.items_exist.ensures net timing order valid is in
-            let made = c.designs_exist.ensures choice net machine timing items.0 valid machine_valid timely items.1 items.2 fits in
+            let made = c.designs_exist.ensures choice net machine timing items.0 valid machine_valid timely items.1.items items.2 fits in
             record { chosen = made.0; claims = made.1; is = made.2; are = made.3 })
         | inr (loop, is) ↦ absurd (acyclic loop is.circle)
       ];
@@ -475,7 +475,7 @@ returns c =
         some = elim (c.order_or_loop.ensures.one net timing) [
           | inl (order, is) ↦
               let items = c.items_exist.ensures net timing order valid is in
-              c.fits_by_or_refused.ensures choice net machine timing items.0 valid machine_valid acyclic items.1
+              c.fits_by_or_refused.ensures choice net machine timing items.0 valid machine_valid acyclic items.1.items
           | inr (loop, is) ↦ absurd (acyclic loop is.circle)
         ];
         one = λ why other is is_too right right_too. c.one_refusal.ensures net machine timing valid why other right right_too is is_too;
@@ -484,7 +484,7 @@ returns c =
       one_summary = c.one_summary.ensures.one;
       once = λ choice net machine timing valid. record {
         formed = λ nodes items. c.items_are_well_formed.ensures net timing nodes valid items;
-        items = c.one_list.ensures net timing;
+        items = c.one_list.ensures.same net timing;
         one = λ a b plain other items items_too picked picked_too used used_too fit fit_too.
             c.one_use.ensures choice net machine timing a b plain other valid items items_too picked picked_too used used_too fit fit_too;
       };
