@@ -6,7 +6,6 @@ pub mod InputLemmas
 pub mod KnownLemmas
 pub mod lemmas
 pub mod LinkLemmas
-pub mod NodeLemmas
 pub mod OneImage
 pub mod OneNone
 pub mod OneRefusal
@@ -14,6 +13,4 @@ pub mod RangeBits
 pub mod RangeLemmas
 pub mod RangeLines
 pub mod RangeTables
-pub mod SameBetter
-pub mod SameSwitches
 pub mod ShownLemmas
