@@ -110,7 +110,7 @@ pub fn yse<R: Threads + Wait + Sync, F: Files, O: Sink, E: Sink, G: Gate + Send>
     // The call comes to an outcome that is expected of the words and of what was read, and the gates were told of its
     // turns.
     ensures expected { (readings : List Reading) × (outcome : Outcome)
-        × AreReadings (F.names files.old) (F.bytes files.old) (F.counts files.old) (F.counts files.new) outcome.status readings
+        × AreReadings (F.names files.old) (F.bytes files.old) (F.counts files.old) (F.counts files.new) readings
         × Expected (map string_bytes words.now) readings outcome
         × EndsAs result outcome (O.taken out.old) (O.taken out.new) (O.faults out.old) (O.faults out.new)
         (TakesLine (E.taken err.old) (E.taken err.new) (E.faults err.old) (E.faults err.new))
