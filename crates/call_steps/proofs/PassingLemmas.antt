@@ -3,11 +3,11 @@ use Rattle.std.proofs.Common.{◌≡◌, sym, refl, subst, inl, inr, ℕ, Bool, 
 use Rattle.std.proofs.lemmas.List.{append_assoc}
 use Rattle.std.specs.Result.{IfOk, IsErrAnd}
 use Rattle.edge_io.specs.declared.counts.FileCounts.{FileCounts}
-use Rattle.refusals.specs.declared.refusal.Refusal.{Refusal}
+use Rattle.refusals.specs.{declared.refusal.Refusal.Refusal, declared.status.Status.TheVariants.Done, Refusals.status_of}
 use Rattle.call_steps.specs.Passing.{Continuation, Never, Only, Passes, Steps}
 use Rattle.call_steps.specs.{Checks.After, Checks.AfterFile, Checks.Refuses, Outcome.Outcome, Readings.Reading, Readings.AreReadings}
 use Rattle.call_steps.specs.{code.Texts.AnswersText, code.Texts.GivesText, Refused.Satisfies, Refused.refused_of}
-use Rattle.call_steps.proofs.lemmas.{ReadingLemmas.no_readings, ReadingLemmas.readings_both, WeakerLemmas.Implies}
+use Rattle.call_steps.proofs.lemmas.{ReadingLemmas.no_readings, ReadingLemmas.readings_both, ReadingLemmas.readings_so, WeakerLemmas.Implies}
 
 -- what is met after this value alone
 pub only_so : {X : Type 0} (x : X) (rest : List Reading) (outcome : Outcome) (Next : Continuation X) → Next x rest outcome → (y : X) → Implies (Only x rest outcome y) (Next y)
@@ -68,9 +68,9 @@ module _ (names : Option (List ℕ → Bool)) (bytes : Option (List ℕ → List
         steps read answer (Ok x) passes = λ rest outcome. (refl, inl (text, answer, inl (x, passes, (refl, refl, refl))))
         steps read answer (Err why) refused = (refl, inl (text, answer, inr (refl, refused)))
 
-        by : (gave : Option (List ℕ)) → AreReadings names bytes old new (record { file = file; bytes = gave } ∷ []) → AnswersText file gave (Ok text) → Passes names bytes old new checked result
+        by : (gave : Option (List ℕ)) → AreReadings names bytes old new Done (record { file = file; bytes = gave } ∷ []) → AnswersText file gave (Ok text) → Passes names bytes old new checked result
         by None reading answer = absurd answer
-        by (Some read) reading answer = record { readings = record { file = file; bytes = Some read } ∷ []; are = reading; steps = steps read answer result is }
+        by (Some read) reading answer = record { readings = record { file = file; bytes = Some read } ∷ []; are = readings_so names bytes reading; steps = steps read answer result is }
 
     pub file_refused : (text : List ℕ) (why : Refusal) (result : Result X Refusal) → IsErrAnd result (λ no. no ≡ why) → GivesText names bytes old new file (Ok text) → Refuses (Check text) (refused_of why) → Passes names bytes old new checked result
     file_refused text why result says gives refused = file_passes text result gives (refused_as (Check text) why result says refused)
@@ -78,7 +78,7 @@ module _ (names : Option (List ℕ → Bool)) (bytes : Option (List ℕ → List
     pub file_stops : (why : Refusal) (result : Result X Refusal) → IsErrAnd result (λ no. no ≡ why) → GivesText names bytes old new file (Err why) → Passes names bytes old new checked result
     file_stops why result says gives = stopped checked old new why result says (by gives.gave gives.reading gives.text)
       where
-        by : (gave : Option (List ℕ)) → AreReadings names bytes old new (record { file = file; bytes = gave } ∷ []) → AnswersText file gave (Err why) → Passes names bytes old new checked (Err why)
+        by : (gave : Option (List ℕ)) → AreReadings names bytes old new (status_of why) (record { file = file; bytes = gave } ∷ []) → AnswersText file gave (Err why) → Passes names bytes old new checked (Err why)
         by None reading answer = record { readings = record { file = file; bytes = None } ∷ []; are = reading; steps = (refl, (refl, answer)) }
         by (Some read) reading answer = record { readings = record { file = file; bytes = Some read } ∷ []; are = reading; steps = (refl, inr (refl, answer)) }
 

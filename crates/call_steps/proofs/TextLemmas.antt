@@ -1,12 +1,13 @@
 -- What the reading of a whole file says of its text.
-use Rattle.std.proofs.Common.{◌≡◌, ◌∙◌, sym, ap, refl, inl, inr, ℕ, suc, ◌<◌, ◌≤◌, Bool, true, false, List, [], ◌∷◌, length, replicate, IsTrue, Option, None, Some, Result, Ok, Err, arith}
+use Rattle.std.proofs.Common.{◌≡◌, ◌∙◌, sym, ap, refl, inl, inr, ℕ, suc, ◌<◌, ◌≤◌, ◌+◌, Bool, true, false, List, [], ◌∷◌, length, replicate, IsTrue, Option, None, Some, Result, Ok, Err, arith}
 use Rattle.std.proofs.lemmas.{Bool.le-leb, Bool.lt-leb, List.length-replicate}
+use Rattle.std.specs.Prelude.{min}
 use Rattle.limits.specs.declared.TheConstants.{MAX_TEXT_BYTES}
-use Rattle.edge_io.specs.{FileCounts.CountsFile, Names.is_absent, Names.IsAbsent, Names.OfTold, declared.counts.FileCounts.FileCounts}
+use Rattle.edge_io.specs.{Counts.raised, FileCounts.CountsFile, Names.is_absent, Names.IsAbsent, Names.OfTold, declared.counts.FileCounts.FileCounts}
 use Rattle.edge_io.specs.declared.reading.ReadNo.{ReadNo}
 use Rattle.edge_io.specs.declared.reading.ReadNo.TheVariants as no
-use Rattle.refusals.specs.{declared.refusal.Refusal.Refusal, declared.status.Status.TheVariants.Limit, Lines.too_long_line}
-use Rattle.call_steps.specs.{Checks.text_of, Outcome.refusal, Outcome.out_of_memory, Readings.AreReadings, code.Texts.GivesText, Refused.refused_of}
+use Rattle.refusals.specs.{declared.refusal.Refusal.Refusal, declared.status.Status.Status, declared.status.Status.TheVariants.Limit, Lines.too_long_line}
+use Rattle.call_steps.specs.{Checks.read_fault, Checks.text_of, Outcome.Outcome, Outcome.refusal, Outcome.out_of_memory, Readings.Gave, Readings.AreReadings, code.Texts.GivesText, Refused.refused_of}
 use Rattle.call_steps.proofs.lemmas.ReadingLemmas.{one_reading}
 
 -- the text of a file of at most so many bytes, and the refusal of a longer one
@@ -32,6 +33,13 @@ long_read : (bytes : Option (List ℕ → List ℕ)) (file : List ℕ) (n : ℕ)
 long_read None file n long = ((long_list n).0, tt, (long_list n).1)
 long_read (Some told) file n long = (told file, refl, long)
 
+-- the bytes of a whole file, and those up to one past the limit
+all_given : (old new n : ℕ) → n ≤ MAX_TEXT_BYTES → new ≡ raised old n → new ≡ raised old (min n (MAX_TEXT_BYTES + 1))
+all_given old new n few is = omega (arith, few, is)
+
+past_given : (old new n : ℕ) → MAX_TEXT_BYTES < n → new ≡ raised old (MAX_TEXT_BYTES + 1) → new ≡ raised old (min n (MAX_TEXT_BYTES + 1))
+past_given old new n many is = omega (arith, many, is)
+
 abbrev failed : Result (List ℕ) ReadNo
 failed = Err no.Failed
 
@@ -51,16 +59,16 @@ module _ (names : Option (List ℕ → Bool)) (bytes : Option (List ℕ → List
       by false f = refl
 
   -- a reading of these bytes
-  given : (read : List ℕ) (result : Result (List ℕ) ReadNo) → OfTold bytes file (λ told. read ≡ told) → (IsAbsent names file → result ≡ failed) → (result ≡ failed → ⊥) → CountsFile (is_absent names file) MAX_TEXT_BYTES result old new → AreReadings names bytes old new (record { file = file; bytes = Some read } ∷ [])
-  given read result whole absent other counted =
+  given : {end : Status} (read : List ℕ) (result : Result (List ℕ) ReadNo) → OfTold bytes file (λ told. read ≡ told) → (IsAbsent names file → result ≡ failed) → (result ≡ failed → ⊥) → CountsFile (is_absent names file) MAX_TEXT_BYTES result old new → Gave end (Some read) old.given new.given → AreReadings names bytes old new end (record { file = file; bytes = Some read } ∷ [])
+  given read result whole absent other counted gave =
       one_reading names bytes old new (record { file = file; bytes = Some read })
       (record { whole = whole; there = there result absent other; fault = λ none. cc })
-      counted.starts counted.absent_starts counted.faults.kept
+      counted.starts counted.absent_starts counted.reads gave counted.faults.kept
 
   pub gives_text : (text : List ℕ) → OfTold bytes file (λ told. text ≡ told) → length text ≤ MAX_TEXT_BYTES → (IsAbsent names file → Ok text ≡ failed) → CountsFile (is_absent names file) MAX_TEXT_BYTES (Ok text) old new → GivesText names bytes old new file (Ok text)
   gives_text text whole short absent counted = record {
     gave = Some text;
-    reading = given text (Ok text) whole absent (λ same. cc) counted;
+    reading = given text (Ok text) whole absent (λ same. cc) counted (inl (all_given old.given new.given (length text) short counted.given));
     text = fits file text short;
   }
 
@@ -70,7 +78,7 @@ module _ (names : Option (List ℕ → Bool)) (bytes : Option (List ℕ → List
       let read = long_read bytes file MAX_TEXT_BYTES long in
       record {
         gave = Some read.0;
-        reading = given read.0 too_long read.1 absent (λ same. cc) counted;
+        reading = given read.0 too_long read.1 absent (λ same. cc) counted (inl (past_given old.given new.given (length read.0) read.2 counted.given));
         text = inl (passes file read.0 read.2 ∙ ap Err (sym is));
       }
 
@@ -79,6 +87,15 @@ module _ (names : Option (List ℕ → Bool)) (bytes : Option (List ℕ → List
       let read = some_read bytes file in
       record {
         gave = Some read.0;
-        reading = given read.0 no_memory read.1 absent (λ same. cc) counted;
+        reading = given read.0 no_memory read.1 absent (λ same. cc) counted (inr (ap (λ (o : Outcome). o.status) is, counted.given));
         text = inr is;
       }
+
+  pub gives_fault : CountsFile (is_absent names file) MAX_TEXT_BYTES failed old new → (why : Refusal) → refused_of why ≡ read_fault file → GivesText names bytes old new file (Err why)
+  gives_fault counted why is = record {
+    gave = None;
+    reading = one_reading names bytes old new (record { file = file; bytes = None })
+        (record { whole = tt; there = tt; fault = λ none. counted.faults.rose refl })
+        counted.starts counted.absent_starts counted.reads counted.given counted.faults.kept;
+    text = is;
+  }

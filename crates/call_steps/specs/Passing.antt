@@ -9,7 +9,7 @@ use Rattle.stim_text.specs.declared.order.Order.{Order}
 use Rattle.call_steps.specs.Checks.{After, AfterFile, HasNoLoop, IsNetlistOf, IsOrderOf}
 use Rattle.call_steps.specs.Files.{AfterFit, AfterImage, AfterMachine, AfterNetlist, AfterStimulus}
 use Rattle.call_steps.specs.{declared.checks.Built.Built, declared.designs.Runnable.Runnable, declared.reading.Timed.Timed, Designs.Placed, Designs.Prepared}
-use Rattle.call_steps.specs.{Outcome.Outcome, Readings.Reading, Readings.AreReadings, Refused.refused_of}
+use Rattle.call_steps.specs.{Outcome.Outcome, Readings.Reading, Readings.AreReadings, Refused.refused_of, Refused.status_after}
 use Rattle.refusals.specs.declared.refusal.Refusal.{Refusal}
 
 -- what comes after a value
@@ -32,7 +32,7 @@ Steps Step readings (Err why) = Step Never readings (refused_of why)
 -- a call began some files, and does this step with what they gave
 pub record Passes {X : Type 0} (names : Option (List ℕ → Bool)) (bytes : Option (List ℕ → List ℕ)) (old new : FileCounts) (Step : Continuation X → List Reading → Outcome → Type 0) (result : Result X Refusal) : Type 0 where
   pub readings : List Reading
-  pub are : AreReadings names bytes old new readings
+  pub are : AreReadings names bytes old new (status_after result) readings
   pub steps : Steps Step readings result
 
 -- a call of files does this step with what they gave

@@ -179,8 +179,8 @@ fn busy_len<S, G>(workers: &[Worker<S, G>]) -> usize
     busy
 }
 
-/// Steps the members of all workers until all are done, each worker in a thread of its own where one can be
-/// made. Before the first step of each turn of a member its worker tells its gate of the turn. No thread is
+/// Steps the members of all workers until all are done, in threads of their own or in the calling thread, as
+/// the head of the crate tells. Before the first step of each turn of a member its worker tells its gate of the turn. No thread is
 /// made for the workers past the last one that has a member.
 pub fn run_all<R: Threads + Wait + Sync, S: Stepper + Send, G: Gate + Send>(
     rt: &R,

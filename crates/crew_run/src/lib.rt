@@ -1,5 +1,5 @@
-//! A crew: workers that step their members until all are done, each worker in a thread of its own where one
-//! can be made.
+//! A crew: workers that step their members until all are done, in threads of their own or all in the calling
+//! thread.
 //!
 //! A member is a `Stepper`, a port of a machine that goes through its turns by single atomic steps. Of each
 //! step it says whether it took an event, found that what it waits for isn't there yet, or had nothing left

@@ -102,7 +102,7 @@ impl<'a, G: Gate> Crew<'a, G> {
     /// the gate in its own place of the turn; the gates past the workers are not used. It may wait, so what it
     /// promises holds if it returns.
     ///
-    /// Workers run in threads of their own where they can be made; no contract says so.
+    /// Workers run in threads where these can be made and gain anything; no contract says so.
     pub fn run_block<R: Threads + Wait + Sync>(&mut self, rt: &R, gates: &mut [Option<G>])
     where
         G: Send,

@@ -1,6 +1,5 @@
 //! A whole machine, run by a crew of workers over one crossbar: each port is dealt to one of them, which
-//! steps it to the end of a block of cycles, in a thread of its own where one can be made. Once all ports are
-//! there, they go on with the next block. The rows of a block are written before the next is begun: so a run
+//! steps it to the end of a block of cycles. Once all ports are there, they go on with the next block. The rows of a block are written before the next is begun: so a run
 //! keeps the printed cells of one block and no more, however many cycles it has, and its first rows are
 //! written while later ones are still to be computed.
 //!

@@ -26,7 +26,7 @@ use std::thread::Threads;
 /// `p % workers` is `w`, and tells the gate `w` of their turns; the gates past the workers are not used.
 /// A refusal comes before any gate is told. It may wait, so what it promises holds if it returns.
 ///
-/// Workers run in threads of their own where they can be made, and once all memory is had; no contract
+/// Workers run once all memory is had, in threads where these can be made and gain anything; no contract
 /// says either.
 pub fn run_machine<R: Threads + Wait + Sync, G: Gate + Send>(
     rt: &R,

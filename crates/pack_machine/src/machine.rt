@@ -34,7 +34,7 @@ use stim_text::Lanes;
 /// Worker `w` steps the ports `p` of which `p % workers` is `w`, and tells the gate `w` of their turns; the gates past
 /// the workers are not used. It may wait, so what it promises holds if it returns.
 ///
-/// Workers run in threads of their own where they can be made, and once all memory is had; no contract
+/// Workers run once all memory is had, in threads where these can be made and gain anything; no contract
 /// says either.
 pub fn run_pack<R: Threads + Wait + Sync, G: Gate + Send, O: Sink>(
     rt: &R,

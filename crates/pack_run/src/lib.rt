@@ -1,5 +1,5 @@
-//! Packed ports that run beside one another over a packed crossbar: each by itself takes its next event, one
-//! load or one store of one shared word at a time, which is that event in all lanes at once.
+//! Packed ports that run beside one another over a packed crossbar: each by itself takes its next event, in one
+//! step that its pass counts, which is that event in all lanes at once.
 //!
 //! To run an image on lanes, hand the ports of all passes to a crew, as below. Once all have made all turns the
 //! host has the cells of all cycles of the longest lane. That they get done no contract says.

@@ -41,7 +41,7 @@ impl<'a, W: Laned> Model for ArrayPort<'a, W> {
 
 impl<'a, W: Laned> ArrayPort<'a, W> {
     /// The array processor before its first turn. It takes memory for each of its memories once a lane,
-    /// and for four planes a slot. No later call takes any.
+    /// and for four words a slot. No later call takes any.
     pub fn new(
         alloc: Global,
         image: &'a Image,

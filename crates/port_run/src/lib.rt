@@ -1,6 +1,6 @@
-//! Ports that run beside one another over a crossbar: each by itself takes its next event, one load or
-//! one store of one shared word at a time. What a step does is the core's event of the same port, by the
-//! number that it found in the one word that it looked at.
+//! Ports that run beside one another over a crossbar: each by itself takes its next event, in one step that its
+//! pass counts. What a step does is the core's event of the same port, by the number that it found in the word that
+//! the step names.
 //!
 //! Turns make a cycle, and cycles make a block: a port runs one block after the other, each of at most as many
 //! cycles as its window, and rests at the end of each until `go_on`.

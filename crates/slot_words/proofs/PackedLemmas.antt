@@ -62,7 +62,7 @@ module _ (old : PackPassView) (fit : IsFit old) where
       let turn : ℕ = old.place.turn in
       let has : HasPlanes old.image old.feed sender slot turn number = is.2 in
       let now : packed_stamp_of number ≡ stamp_in turn = eqb-true (packed_stamp_of number) (stamp_in turn) is.1 in
-      let same : planes ≡ has.planes = read_back turn n planes has.planes (is.0 ∙ has.is) (ap packed_stamp_of is.0 ∙ now, planes_are.0, planes_are.1) in
+      let same : planes ≡ has.planes = read_back turn n planes has.planes (is.0 ∙ has.is) planes_are in
       (now, has.is ∙ ap (packed turn) (sym same), subst (AreValues old.image old.feed turn sender slot) (sym same) has.values, is.3)
   found_seen new sender slot word number (Some n) NotYet wrong is = absurd wrong
   found_seen new sender slot word number None (Value planes) wrong is = absurd wrong

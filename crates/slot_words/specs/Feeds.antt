@@ -3,7 +3,7 @@ use Rattle.std.specs.Prelude.{◌≡◌, Bool, ℕ, ◌+◌, ◌<◌, ◌≤◌,
 use Rattle.limits.specs.declared.TheConstants.{MAX_BANKS}
 use Rattle.image_defs.specs.{WellFormed.IsWellFormed, declared.image.Image.Image}
 
--- runs have few turns, and sends few banks
+-- each run has few turns, and each send few banks
 pub record AreFew {D : Type 0} (runs : Image → D → Type 0) (turns : Image → D → ℕ) (most : ℕ) : Type 0 where
   pub short : (image : Image) (feed : D) → IsWellFormed image → runs image feed → turns image feed < 2 ^ 59
   pub banks : most ≤ MAX_BANKS

@@ -114,7 +114,7 @@ impl Crossbar {
         Ok((Crossbar { words }, passes))
     }
 
-    /// How many turns a reader has finished. One load. The pass knows it from then on.
+    /// How many turns a reader has finished: one step. The pass knows it from then on.
     pub fn ask(&self, pass: &mut Pass, reader: u32) -> u64
         requires own { IsOf self.now pass.old }
         requires running { IsRunning pass.old }
@@ -126,7 +126,7 @@ impl Crossbar {
         self.words.ask(pass, reader)
     }
 
-    /// Writes the value of this turn in a slot. One store.
+    /// Writes the value of this turn in a slot: one step.
     pub fn put(&self, pass: &mut Pass, slot: u32, v: V4)
         requires own { IsOf self.now pass.old }
         requires running { IsRunning pass.old }
@@ -137,7 +137,7 @@ impl Crossbar {
         self.words.put(pass, slot, number);
     }
 
-    /// Reads what is sent in a slot, and takes it if it is of this turn. One load.
+    /// Reads what is sent in a slot, and takes it if it is of this turn: one step.
     pub fn take(&self, pass: &mut Pass, slot: u32) -> Taken
         requires own { IsOf self.now pass.old }
         requires running { IsRunning pass.old }
@@ -147,7 +147,7 @@ impl Crossbar {
         taken_of(self.words.take(pass, slot))
     }
 
-    /// Tells that the turn is finished. One store. The next turn begins.
+    /// Tells that the turn is finished: one step. The next turn begins.
     pub fn tell(&self, pass: &mut Pass)
         requires own { IsOf self.now pass.old }
         requires running { IsRunning pass.old }

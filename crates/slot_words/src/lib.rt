@@ -1,10 +1,10 @@
 //! The words of crossbars, which threads share under one rule: none is overwritten before its readers took it.
-//! Each port of an image runs by itself and shares with the others only the words of a crossbar: one progress word
-//! for each port, and for each send so many words as there are banks. A step is one load or one store of one word.
-//! The rule holds between any two steps of all threads, in whatever order they fall: no word is overwritten before
-//! its readers took it, and what is taken is the image's value of this turn. And what a step says that it saw in a
-//! word, that word tells when the step is over. The definitions are in `specs/`: which word is whose, what the rule
-//! says, and what each step does.
+//! Each port of an image runs by itself and shares with the others only the words of a crossbar: one progress
+//! word for each port, and for each send so many words as there are banks. A step loads or stores one word, and
+//! its pass counts it. The rule holds between any two steps of all threads, in whatever order they fall: no word
+//! is overwritten before its readers took it, and what is taken is the image's value of this turn. And what a
+//! step says that it saw in a word, that word tells when the step is over. The definitions are in `specs/`: which
+//! word is whose, what the rule says, and what each step does.
 //!
 //! Words are numbered. Word `p` is port `p`'s progress word, which holds the number of turns that the
 //! port has finished. Behind them stand the words of all sends, port after port, send after send, bank

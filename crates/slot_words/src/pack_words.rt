@@ -13,4 +13,4 @@ mod words;
 
 pub use bar::{PackBar, PackPass};
 pub use lane_planes::{Planes, eval_planes, settle_planes};
-pub use words::{PackTaken, packed_word, read_packed};
+pub use words::{PackTaken, packed_word};

@@ -1,4 +1,4 @@
-//! The four steps of a pass: one load or one store of one word, where the rule allows it.
+//! The four steps of a pass: each is counted, and loads or stores one word where the rule allows it.
 
 ghost use Rattle.std.specs.Prelude.{◌<◌, ◌≡◌};
 ghost use mathlib.Core.Option.{none};

@@ -47,7 +47,7 @@ fn taken(number: u64, now: bool) -> Option<u64>
 }
 
 impl<D, F: Feed<D>> Words<D, F> {
-    /// How many turns a reader has finished. One load. The pass knows it from then on.
+    /// How many turns a reader has finished: one step. The pass knows it from then on.
     pub fn ask(&self, pass: &mut Pass<D, F>, reader: u32) -> u64
         requires own { IsOf self.now pass.old }
         requires running { IsRunning F.Feed pass.old }
@@ -62,7 +62,7 @@ impl<D, F: Feed<D>> Words<D, F> {
         finished
     }
 
-    /// Writes the number of this turn in a slot. One store.
+    /// Writes the number of this turn in a slot: one step.
     pub fn put(&self, pass: &mut Pass<D, F>, slot: u32, number: u64)
         requires own { IsOf self.now pass.old }
         requires running { IsRunning F.Feed pass.old }
@@ -78,7 +78,7 @@ impl<D, F: Feed<D>> Words<D, F> {
         steps::put(shared, &mut pass.seat, word, number);
     }
 
-    /// Reads what is sent in a slot, and takes it if it is of this turn. One load.
+    /// Reads what is sent in a slot, and takes it if it is of this turn: one step.
     pub fn take(&self, pass: &mut Pass<D, F>, slot: u32) -> Option<u64>
         requires own { IsOf self.now pass.old }
         requires running { IsRunning F.Feed pass.old }
@@ -96,7 +96,7 @@ impl<D, F: Feed<D>> Words<D, F> {
         taken(number, now)
     }
 
-    /// Tells that the turn is finished. One store. The next turn begins.
+    /// Tells that the turn is finished: one step. The next turn begins.
     pub fn tell(&self, pass: &mut Pass<D, F>)
         requires own { IsOf self.now pass.old }
         requires running { IsRunning F.Feed pass.old }

@@ -38,7 +38,7 @@ module _ (names : Option (List ℕ → Bool)) (bytes : Option (List ℕ → List
   -- a call began some files, and comes to an outcome that a chain of checks expects of them
   pub record Follows (outcome : Outcome) (Chain : List Reading → Outcome → Type 0) : Type 0 where
     pub readings : List Reading
-    pub are : AreReadings names bytes old new readings
+    pub are : AreReadings names bytes old new outcome.status readings
     pub expected : Chain readings outcome
 
 -- a call of files comes to an outcome that a chain of checks expects of those that it began

@@ -23,7 +23,7 @@ module _ (names : Option (List ℕ → Bool)) (bytes : Option (List ℕ → List
   follows_no_memory words = follows_here names bytes old (refused_of refusal.Memory) (Expected words) (inr (refl, inr refl))
 
   -- no more files are begun than the command has
-  pub few_begun : (files : List (List ℕ)) (Chain : List Reading → Outcome → Type 0) (readings : List Reading) (outcome : Outcome) → IsProper files Chain → AreReadings names bytes old new readings → Chain readings outcome → new.starts ≤ raised old.starts (length files)
+  pub few_begun : (files : List (List ℕ)) (Chain : List Reading → Outcome → Type 0) (readings : List Reading) (outcome : Outcome) → IsProper files Chain → AreReadings names bytes old new outcome.status readings → Chain readings outcome → new.starts ≤ raised old.starts (length files)
   few_begun files Chain readings outcome proper are expected =
       let begun = proper.begun readings outcome expected in
       let many : length readings ≤ length files = few (sym (length-map readings (λ reading. reading.file)) ∙ ap length begun) in

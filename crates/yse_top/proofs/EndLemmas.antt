@@ -41,7 +41,7 @@ module _ (names : Option (List ℕ → Bool)) (bytes : Option (List ℕ → List
       by None some there = absurd (some refl)
       by (Some read) some there = there
 
-  pub absent_kept : (readings : List Reading) (outcome : Outcome) → AreReadings names bytes old new readings → Chain readings outcome → outcome.status ≢ status.ReadFault → new.absent_starts ≡ old.absent_starts
+  pub absent_kept : (readings : List Reading) (outcome : Outcome) → AreReadings names bytes old new outcome.status readings → Chain readings outcome → outcome.status ≢ status.ReadFault → new.absent_starts ≡ old.absent_starts
   absent_kept readings outcome are expected other =
       are.absent_starts
       ∙ ap (raised old.absent_starts) (none_among readings (λ place reading at. there_of reading (are.each place reading at) (λ none. other (((proper.cause readings outcome expected).unread place reading at none).0))))
@@ -52,7 +52,7 @@ module _ (names : Option (List ℕ → Bool)) (bytes : Option (List ℕ → List
 
   -- ---- faults
 
-  pub fault_rose : (readings : List Reading) (outcome : Outcome) → AreReadings names bytes old new readings → Chain readings outcome → outcome.status ≡ status.ReadFault → Rose old.faults new.faults
+  pub fault_rose : (readings : List Reading) (outcome : Outcome) → AreReadings names bytes old new outcome.status readings → Chain readings outcome → outcome.status ≡ status.ReadFault → Rose old.faults new.faults
   fault_rose readings outcome are expected is =
       let last = (proper.cause readings outcome expected).read_fault is in
       (are.each (length last.0) (record { file = last.1; bytes = None }) (ap (λ (rs : List Reading). slice_get rs (length last.0)) last.2 ∙ last_at last.0 (record { file = last.1; bytes = None }))).fault refl
@@ -68,7 +68,7 @@ module _ (names : Option (List ℕ → Bool)) (bytes : Option (List ℕ → List
       by None whole some = absurd (some refl)
       by (Some read) whole some = ap Some (whole ∙ ap told same) ∙ sym (are place other at).1
 
-  pub completes : (read : List Reading) (outcome : Outcome) → AreReadings names bytes old new read → Chain read outcome → (readings : List Reading) (other : Outcome) → Chain readings other → other.status ≡ status.Done → AreToldBy names bytes readings → (Rose old.faults new.faults → ⊥) → IsDoneOrMemory outcome.status
+  pub completes : (read : List Reading) (outcome : Outcome) → AreReadings names bytes old new outcome.status read → Chain read outcome → (readings : List Reading) (other : Outcome) → Chain readings other → other.status ≡ status.Done → AreToldBy names bytes readings → (Rose old.faults new.faults → ⊥) → IsDoneOrMemory outcome.status
   completes read outcome are came readings other expected well told kept =
       done_or_memory outcome.status (λ known. (proper.one read readings outcome other came expected agree known (λ memory. clash (sym well ∙ memory))).status ∙ well)
     where

@@ -23,7 +23,7 @@ module _ {F O E G : Type 0} (store : files.Ghosts F) (output : sink.Ghosts O) (t
     pub trace : status ≡ Done → (text : List ℕ) × (output.taken out_new ≡ append_known (output.taken out_old) text) × IsOutputOfFiles (store.bytes files_old) text (asked words)
     pub readings : List Reading
     pub outcome : Outcome
-    pub read : AreReadings (store.names files_old) (store.bytes files_old) (store.counts files_old) (store.counts files_new) readings
+    pub read : AreReadings (store.names files_old) (store.bytes files_old) (store.counts files_old) (store.counts files_new) outcome.status readings
     pub is : Expected words readings outcome
     pub ends : EndsAs status outcome (output.taken out_old) (output.taken out_new) (output.faults out_old) (output.faults out_new)
         (TakesLine (told.taken err_old) (told.taken err_new) (told.faults err_old) (told.faults err_new))

@@ -46,7 +46,7 @@ RunsWhatIsCompiled =
     → (first second : List Reading) → Expected compiling first compiled → AreHeld before first → compiled.status ≡ status.Done → length compiled.output ≤ MAX_TEXT_BYTES
     → Expected running second ran → AreHeld after second → ran.status ≡ status.Done
     → (names : Option (List ℕ → Bool)) (bytes : Option (List ℕ → List ℕ)) (counts counts' : FileCounts) (third : List Reading) (outcome : Outcome)
-    → AreReadings names bytes counts counts' third → AreHeld after third → Expected executing third outcome
+    → AreReadings names bytes counts counts' outcome.status third → AreHeld after third → Expected executing third outcome
     → (result : Status) (old new told told' : Option (List ℕ)) (faults_old faults_new told_faults told_faults' : ℕ)
     → EndsAs result outcome old new faults_old faults_new (TakesLine told told' told_faults told_faults')
     → WritesOrFails ran.output result counts counts' old new faults_old faults_new

@@ -1,12 +1,11 @@
--- What a word of a packed send holds, and what it gives who reads it in a turn.
-use Rattle.std.specs.Prelude.{◌≡◌, ◌≢◌, ◌==◌, Bool, ℕ, ◌+◌, ◌*◌, ◌/◌, ◌%◌, ◌<◌, ◌^◌}
+-- What a word of a packed send holds.
+use Rattle.std.specs.Prelude.{◌≡◌, ◌==◌, Bool, ℕ, ◌+◌, ◌*◌, ◌%◌, ◌<◌, ◌^◌}
 use Rattle.limits.specs.declared.TheConstants.{LANES}
 use Rattle.lane_planes.specs.{Lanes.lane_of, declared.planes.Planes.Planes}
 use Rattle.net_defs.specs.declared.stimulus.Stimulus.{Stimulus}
 use Rattle.stim_text.specs.{Lanes.AreLanes, Lanes.lane_stimulus, Lanes.longest, declared.lanes.Lanes.Lanes}
 use Rattle.image_defs.specs.{Frames.image_value, declared.image.Image.Image}
-use Rattle.slot_words.specs.declared.{feed.Feed.Ghosts, pack_words.bar.Packed.Packed, pack_words.words.PackTaken.PackTaken}
-use Rattle.slot_words.specs.declared.pack_words.words.PackTaken.TheVariants.{NotYet, Value}
+use Rattle.slot_words.specs.declared.{feed.Feed.Ghosts, pack_words.bar.Packed.Packed}
 
 -- the stamp of a turn and that of a word, of which 16 are told apart
 abbrev pub stamp_in : ℕ → ℕ
@@ -18,11 +17,6 @@ packed_stamp_of word = word % 16
 -- the word of planes in a turn: the stamp in 4 bits, and a bit a lane for each of the planes
 abbrev pub packed : ℕ → Planes → ℕ
 packed turn planes = stamp_in turn + 16 * planes.low + 2 ^ (LANES + 4) * planes.high
-
--- what a word gives in a turn: its planes where it has the turn's stamp
-abbrev pub IsReadIn : ℕ → ℕ → PackTaken → Type 0
-IsReadIn word turn (Value planes) = (packed_stamp_of word ≡ stamp_in turn) × (planes.low ≡ word / 16 % 2 ^ LANES) × (planes.high ≡ word / 2 ^ (LANES + 4))
-IsReadIn word turn NotYet = packed_stamp_of word ≢ stamp_in turn
 
 -- ---- lanes
 

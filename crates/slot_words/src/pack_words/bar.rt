@@ -92,7 +92,7 @@ impl PackBar {
         Ok((PackBar { words }, passes))
     }
 
-    /// How many turns a reader has finished. One load. The pass knows it from then on.
+    /// How many turns a reader has finished: one step. The pass knows it from then on.
     pub fn ask(&self, pass: &mut PackPass, reader: u32) -> u64
         requires own { IsOf self.now pass.old }
         requires running { IsRunning pass.old }
@@ -104,7 +104,7 @@ impl PackBar {
         self.words.ask(pass, reader)
     }
 
-    /// Writes the values of this turn in a slot, one a lane. One store.
+    /// Writes the values of this turn in a slot, one a lane: one step.
     pub fn put(&self, pass: &mut PackPass, slot: u32, v: Planes)
         requires own { IsOf self.now pass.old }
         requires running { IsRunning pass.old }
@@ -115,7 +115,7 @@ impl PackBar {
         self.words.put(pass, slot, number);
     }
 
-    /// Reads what is sent in a slot, and takes it if it is of this turn. One load.
+    /// Reads what is sent in a slot, and takes it if it is of this turn: one step.
     pub fn take(&self, pass: &mut PackPass, slot: u32) -> PackTaken
         requires own { IsOf self.now pass.old }
         requires running { IsRunning pass.old }
@@ -125,7 +125,7 @@ impl PackBar {
         taken_of(self.words.take(pass, slot))
     }
 
-    /// Tells that the turn is finished. One store. The next turn begins.
+    /// Tells that the turn is finished: one step. The next turn begins.
     pub fn tell(&self, pass: &mut PackPass)
         requires own { IsOf self.now pass.old }
         requires running { IsRunning pass.old }

@@ -1,31 +1,18 @@
-//! Laws of packed words and their rule: functions that do nothing, whose clauses hold of all words, and of all
-//! states that meet the rule.
+//! Laws of the rule of packed words: functions that do nothing, whose clauses hold of all states that meet the rule.
 
 ghost use Rattle.std.specs.Prelude.{List, ℕ, Some, slice_set, ◌+◌, ◌<◌, ◌≡◌, ◌≤◌};
 ghost use mathlib.Core.Option.{some};
 ghost use lib.ListN.{get_elem?};
-ghost use Rattle.lane_planes.specs.declared.planes.Planes.{Planes};
 ghost use Rattle.image_defs.specs.{Places.Stands, declared.image.LinkOut.LinkOut};
 ghost use Rattle.event_defs.specs.Places.{IsSend, known_of};
 ghost use Rattle.atomic_table.specs.Table.{Act, State, stepped};
 ghost use Rattle.slot_words.specs.packed.Sound.{ArePassesSound, Kept, PackKey, PackView};
 ghost use Rattle.slot_words.specs.{Layout.progress_in, Layout.told_in, Layout.turns_told, Rule.AreDistinct, Rule.AreLooks};
-ghost use Rattle.slot_words.specs.declared.pack_words.words.PackTaken.{PackTaken, TheVariants.NotYet, TheVariants.Value};
-ghost use Rattle.slot_words.specs.packed.Words.{IsReadIn, packed};
 
 use crate::pack_words::bar::Packed;
 use crate::rule::{Key, Law, View};
 use atomic_table::TableRule;
 use stim_text::Lanes;
-
-/// A law: reading the word of planes in its own turn gives these planes; in the fifteen turns after it, it gives
-/// nothing; and 0, which no turn from 1 to 15 made, gives nothing in these.
-pub fn words_tell_their_turn()
-    ensures now { (turn : ℕ) (planes : Planes) (taken : PackTaken) → IsReadIn (packed turn planes) turn taken → taken ≡ Value planes }
-    ensures later { (turn put : ℕ) (planes : Planes) (taken : PackTaken) → put < turn → turn ≤ put + 15
-        → IsReadIn (packed put planes) turn taken → taken ≡ NotYet }
-    ensures first { (turn : ℕ) (taken : PackTaken) → 1 ≤ turn → turn ≤ 15 → IsReadIn 0 turn taken → taken ≡ NotYet }
-{}
 
 /// A law: what the table holds between any two steps is the rule, and nothing else. It does nothing.
 pub fn rule_is_kept()

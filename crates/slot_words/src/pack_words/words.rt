@@ -1,7 +1,7 @@
 //! The words of packed sends.
 
 ghost use Rattle.std.specs.Prelude.{◌≡◌};
-ghost use Rattle.slot_words.specs.{code.PackedWords.IsPlanesOf, packed.Words.IsReadIn, packed.Words.packed};
+ghost use Rattle.slot_words.specs.{code.PackedWords.IsPlanesOf, packed.Words.packed};
 
 use lane_planes::Planes;
 use limits::LANES;
@@ -32,17 +32,5 @@ pub(crate) fn planes_of(word: u64) -> Planes
     Planes {
         low: (word / 16 % (1 << LANES)) as u32,
         high: (word / (1 << (LANES + 4))) as u32,
-    }
-}
-
-/// What a word gives in a turn: its planes, if it has the stamp of this turn.
-#[inline]
-pub fn read_packed(word: u64, turn: u64) -> PackTaken
-    ensures { IsReadIn word turn result }
-{
-    if word % 16 == turn % 16 {
-        PackTaken::Value(planes_of(word))
-    } else {
-        PackTaken::NotYet
     }
 }

@@ -11,7 +11,7 @@ use Rattle.call_steps.specs.{Outcome.Outcome, Readings.Reading, Readings.AreRead
 pub record CameTo {G : Type 0} (p : gate.Ghosts G) (gates gates' : List (Option G)) (names : Option (List ℕ → Bool)) (bytes : Option (List ℕ → List ℕ)) (counts counts' : FileCounts) (Chain : List Reading → Outcome → Type 0) (result : Status) (old new : Option (List ℕ)) (faults_old faults_new : ℕ) (TakesLine : List ℕ → Type 0) : Type 0 where
   pub readings : List Reading
   pub outcome : Outcome
-  pub are : AreReadings names bytes counts counts' readings
+  pub are : AreReadings names bytes counts counts' outcome.status readings
   pub expected : Chain readings outcome
   pub ends : EndsAs result outcome old new faults_old faults_new TakesLine
   pub told : TellsTurns p gates gates' (wrote_at result) outcome.told

@@ -1,6 +1,6 @@
 -- What was read is the text, or is too long, or there was no memory for it.
-use Rattle.std.proofs.Common.{rules, refl}
-use Rattle.call_steps.proofs.TextLemmas.{gives_text, gives_too_long, gives_memory}
+use Rattle.std.proofs.Common.{refl}
+use Rattle.call_steps.proofs.TextLemmas.{gives_fault, gives_memory, gives_text, gives_too_long}
 use Rattle.call_steps.proofs.reading.read_text.Goals as goal
 
 pub returns-in-Ok-clause-text : goal.returns-in-Ok-clause-text
@@ -18,4 +18,6 @@ returns-in-Err-Memory-clause-text g c =
     gives_memory _ _ _ _ _ e.absent e.counted _ refl
 
 pub returns-in-Err-Failed-clause-text : goal.returns-in-Err-Failed-clause-text
-returns-in-Err-Failed-clause-text g c = search rules
+returns-in-Err-Failed-clause-text g c =
+    let e = rw c.in-Err-Failed.field-0-is at c.in-Err-Failed.ensures in
+    gives_fault _ _ _ _ _ e.counted _ refl
