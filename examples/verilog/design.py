@@ -1,5 +1,5 @@
-"""What to-bench and against-vvp share: how a design in Verilog is read by Yosys, which module is its top, and which names
-of a netlist stand for the bits of its ports. Nothing is proved of it.
+"""What to-bench and against-vvp share: how Yosys reads a design in Verilog, which module is its top, and which names of a
+netlist stand for the bits of its ports. Nothing is proved of it.
 """
 import json
 import re
@@ -37,7 +37,7 @@ def need(tool, package=None):
 
 
 def read_files(design):
-    """The command by which Yosys reads the files. Named on its command line, they would be read later than asked for."""
+    """The command by which Yosys reads the files; those on its command line it reads too late to see a top."""
     words = [f"-I {folder}" for folder in design.folders] + [f"-D {macro}" for macro in design.macros]
     return " ".join(["read_verilog -sv"] + words + [f'"{name}"' for name in design.files])
 
@@ -115,7 +115,8 @@ def ports_of(module, clock, names):
         if port["direction"] == "inout":
             raise Refused(f"{name} is inout: let the module have its enable and its data, and write the bus by hand")
         if name != clock:
-            ports.append(Port(name, port["direction"], port["bits"], [names.take(n) for n in names_of_bits(name, port)]))
+            bits = [names.take(bit) for bit in names_of_bits(name, port)]
+            ports.append(Port(name, port["direction"], port["bits"], bits))
     return ports
 
 
