@@ -3,7 +3,7 @@ YSE = ./yse
 PREFIX = /usr/local
 DIST = yse-dist
 
-.PHONY: build run try test examples install dist
+.PHONY: build run try test examples folder install dist
 
 # Proves every crate that the program stands on, as many at once as there are processors, and leaves the executable at
 # ./yse.
@@ -27,15 +27,21 @@ test:
 examples: build
 	examples/check $(YSE)
 
-# Puts the executable into PREFIX/bin.
-install: build
-	install -D -m 755 $(YSE) $(DESTDIR)$(PREFIX)/bin/yse
-
-# Packs the executable, the documents and the examples into one archive, which needs no kit.
-dist: build
+# The executable with its manual page and completions, the documents and the examples, in one folder.
+folder: build
 	rm -rf $(DIST) && mkdir $(DIST)
-	cp $(YSE) README.md $(DIST)
-	cp -R docs examples $(DIST)
+	cp $(YSE) $(DIST)/yse
+	tools/man-page $(YSE) >$(DIST)/yse.1
+	tools/completions $(YSE) >$(DIST)/yse.bash
+	cp -R README.md docs examples tools/install $(DIST)
+
+# Puts the executable, its manual page and its completions into PREFIX.
+install: folder
+	$(DIST)/install $(DESTDIR)$(PREFIX)
+	rm -rf $(DIST)
+
+# Packs that folder into one archive, which needs no kit: its script `install` does what `make install` does.
+dist: folder
 	tar -czf $(DIST).tar.gz $(DIST)
 	rm -rf $(DIST)
 	@echo "the archive is $(DIST).tar.gz"
