@@ -16,5 +16,5 @@ returns c choice net machine timing chosen other valid is is_too =
       homes,
       plan,
       c.one_switch.ensures two.nodes two.homes two.plan.slots one.switch two.switch
-      (subst (λ (p : Plan). IsSwitch two.nodes two.homes p.slots one.switch) plan (moved (λ n h. IsSwitch n h one.plan.slots one.switch) nodes homes is.design.routed)) is_too.design.routed,
+          (subst (λ (p : Plan). IsSwitch two.nodes two.homes p.slots one.switch) plan (moved (λ n h. IsSwitch n h one.plan.slots one.switch) nodes homes is.design.routed)) is_too.design.routed,
     )
