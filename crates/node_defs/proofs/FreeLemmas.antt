@@ -49,9 +49,10 @@ free_list net timing one other first second =
       items = λ x i j here there. same_item one.tables other.tables i j (items_same net timing one other first second x i j here there);
       sharing = λ x y t u v w f g h k one_x one_y other_x other_y.
           (let at_x = twins x t v f h one_x other_x in
-          let at_y = twins y u w g k one_y other_y in
-          (shared one.tables other.tables t u v w second.tables at_x at_y,
-          shared other.tables one.tables v w t u first.tables (turned one.tables other.tables t v at_x) (turned one.tables other.tables u w at_y)));
+          let at_y = twins y u w g k one_y other_y in (
+            shared one.tables other.tables t u v w second.tables at_x at_y,
+            shared other.tables one.tables v w t u first.tables (turned one.tables other.tables t v at_x) (turned one.tables other.tables u w at_y),
+          ));
       printed = same.2;
       blocks = same.3;
       first_node = same.4;

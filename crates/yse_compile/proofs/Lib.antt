@@ -1,4 +1,7 @@
+mod AnswerLemmas
+mod BridgeLemmas
 pub mod ClaimLemmas
+mod FigureLemmas
 pub mod FitLemmas
 pub mod HousedLemmas
 pub mod ImageExists

@@ -1,17 +1,20 @@
 //! Laws of designs and machines: functions that do nothing, whose clauses hold of all of them.
 
-ghost use Rattle.std.specs.Prelude.{◌≡◌, ◌⊎◌, ℕ, All};
+ghost use Rattle.std.specs.Prelude.{◌≡◌, ◌⊎◌, ℕ, All, List as Items, Result};
 ghost use Rattle.event_defs.specs.Linked.{AreLinkedAlike};
 ghost use Rattle.image_build.specs.{Built.IsBuilt, Plans.IsPlanned};
+ghost use Rattle.image_check.specs.{declared.check.CheckNo.CheckNo, Check.Says};
+ghost use Rattle.image_defs.specs.{Claimed.HasClaims, declared.file.ImageFile.ImageFile};
 ghost use Rattle.image_defs.specs.declared.{file.Claims.Claims, image.Image.Image};
 ghost use Rattle.machine_text.specs.{declared.machine.Machine.Machine, Machines.IsValid as IsValidMachine};
 ghost use Rattle.home_pick.specs.{Better.IsBetter, declared.pick.HomeNo.HomeNo, Refusals.IsRight as LacksHomes, Crossings.crossings};
 ghost use Rattle.net_defs.specs.declared.{homes.HomeChoice.HomeChoice, netlist.Netlist.Netlist, timing.Timing.Timing};
 ghost use Rattle.net_defs.specs.Valid.{IsValid, IsValidTiming};
-ghost use Rattle.node_defs.specs.{declared.items.NodeNet.NodeNet, Order.AreItems, WellFormed.IsWellFormed};
+ghost use Rattle.node_defs.specs.{declared.items.NodeNet.NodeNet, Order.AreItems, Order.IsMapped, WellFormed.IsWellFormed};
 ghost use Rattle.func_table.specs.Entries.{HasWords};
 ghost use Rattle.plan_defs.specs.{declared.plan.Homes.Homes, declared.plan.Plan.Plan, declared.switch.Switch.Switch, Homes.AreHomes};
-ghost use Rattle.plan_defs.specs.{Picks.ArePicked, Picks.FindsNoPort, Picks.HasTooManyNodes, Slots.IsFirstFitPlan, Switches.IsSwitch, Tables.UsesTables};
+ghost use Rattle.plan_defs.specs.{Picks.ArePicked, Picks.FindsNoPort, Picks.HasTooManyNodes, Slots.IsFirstFitPlan, Switches.IsSwitch, Tables.Fits, Tables.UsesTables};
+ghost use Rattle.plan_text.specs.Reports.{IsReport};
 ghost use Rattle.slot_plan.specs.{declared.fit.PlanNo.PlanNo, Refusals.IsCrowded, Refusals.IsLong, Refusals.IsRight as LacksPlan};
 ghost use Rattle.slot_plan.specs.declared.fit.PlanNo.TheVariants as no_plan;
 ghost use Rattle.yse_compile.specs.Chosen.{FitsBy, FitsEither, HomesFit, IsChosen, IsDesign, IsUsed};
@@ -23,8 +26,47 @@ ghost use Rattle.yse_compile.specs.declared.compiler.CompNo.TheVariants as no;
 
 use crate::inputs::same_inputs;
 use home_pick::law::{housed_or_refused, one_better, one_housing, some_better};
+use image_check::law::matches_or_not;
 use node_defs::law::one_list;
 use plan_defs::law::{items_are_well_formed, one_plan};
+
+/// A law: that a design fits, each refusal that says that a machine is too small for it, its report, and what the check
+/// says of an image, are so of the items that the netlist is mapped to, where they are so of its items, whichever numbers
+/// their tables have. It does nothing.
+pub fn numbers_are_free()
+    ensures fits { (net : Netlist) (machine : Machine) (timing : Timing) (nodes : NodeNet) → IsValid net → IsMapped net timing nodes
+        → DesignFits net machine timing → (homes : Homes) × ArePicked nodes machine homes × HomesFit nodes machine homes }
+    ensures either { (net : Netlist) (machine : Machine) (timing : Timing) (nodes : NodeNet) → IsValid net → IsMapped net timing nodes
+        → FitsEither net machine timing → (plain : Homes) × ArePicked nodes machine plain
+        × (HomesFit nodes machine plain ⊎ ((best : Homes) × IsBetter nodes machine plain best × HomesFit nodes machine best)) }
+    ensures bits { (net : Netlist) (machine : Machine) (timing : Timing) (nodes : NodeNet) → IsValid net → IsMapped net timing nodes
+        → (block needed left : ℕ) → LacksBits net machine timing block needed left → FindsNoPort nodes machine block needed left }
+    ensures nodes { (net : Netlist) (machine : Machine) (timing : Timing) (nodes : NodeNet) → IsValid net → IsMapped net timing nodes
+        → (needed limit : ℕ) → LacksNodes net machine timing needed limit → HasTooManyNodes nodes machine needed limit }
+    ensures slots { (net : Netlist) (machine : Machine) (timing : Timing) (nodes : NodeNet) → IsValid net → IsMapped net timing nodes
+        → (needed limit : ℕ) → LacksSlots net machine timing needed limit
+        → (homes : Homes) × ArePicked nodes machine homes × IsLong nodes homes machine needed limit }
+    ensures functions { (net : Netlist) (machine : Machine) (timing : Timing) (nodes : NodeNet) → IsValid net → IsMapped net timing nodes
+        → (port needed limit : ℕ) → LacksFunctions net machine timing port needed limit
+        → (homes : Homes) × ArePicked nodes machine homes × IsCrowded nodes homes machine port needed limit }
+    ensures report { (choice : HomeChoice) (net : Netlist) (machine : Machine) (timing : Timing) (nodes others : NodeNet)
+        (plain : Homes) (chosen : Chosen) (plan : Plan) (report : Items ℕ) → IsValid net → IsMapped net timing nodes
+        → AreItems net timing others → ArePicked others machine plain → IsUsed choice others machine plain chosen
+        → IsFirstFitPlan others chosen.compiled.homes plan → Fits others chosen.compiled.homes machine plan
+        → IsReport net others chosen.compiled.homes plan report
+        → ArePicked nodes machine plain × IsUsed choice nodes machine plain chosen
+        × IsFirstFitPlan nodes chosen.compiled.homes plan × Fits nodes chosen.compiled.homes machine plan
+        × IsReport net nodes chosen.compiled.homes plan report }
+    ensures says { (net : Netlist) (timing : Timing) (nodes others : NodeNet) (file : ImageFile) → IsValid net
+        → IsMapped net timing nodes → AreItems net timing others → HasClaims file
+        → (answer : Result (Unit {0}) CheckNo) → Says file others timing answer → Says file nodes timing answer }
+{
+    one_list();
+    items_are_well_formed();
+    tables_counted();
+    matches_or_not();
+    same_inputs();
+}
 
 /// A law: a netlist has one list of homes on a machine, whichever numbers its tables have. It does
 /// nothing.
