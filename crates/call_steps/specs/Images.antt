@@ -5,7 +5,7 @@ use Rattle.net_defs.specs.declared.homes.HomeChoice.{HomeChoice}
 use Rattle.image_defs.specs.{declared.image.Image.Image, WellFormed.IsWellFormed, declared.file.ImageFile.ImageFile}
 use Rattle.port_host.specs.Rows.{printed_sources}
 use Rattle.yse_compile.specs.{Compiled.ShowsReference, declared.choose.Chosen.Chosen, Chosen.IsChosen}
-use Rattle.node_defs.specs.{declared.items.NodeNet.NodeNet, Order.AreItems}
+use Rattle.node_defs.specs.{declared.items.NodeNet.NodeNet, Order.IsMapped}
 use Rattle.image_file.specs.{Ranges.Reads, Reading.first_fault}
 use Rattle.image_check.specs.{declared.check.CheckNo.CheckNo, declared.check.CheckNo.TheVariants.Memory, Check.Says}
 use Rattle.refusals.specs.declared.status.Status.TheVariants as status
@@ -35,7 +35,7 @@ IsImageFileOf text = ReadsAs (Reads text) (first_fault text) (λ why. refusal st
 -- the image is well formed and matches the items of the netlist, through its claims; where it doesn't, the refusal
 -- says what the check says of it
 abbrev pub IsAccepted : Netlist → Timing → ImageFile → Result (Unit {0}) Outcome → Type 0
-IsAccepted net timing file (Ok passed) = (nodes : NodeNet) × AreItems net timing nodes × Says file nodes timing (Ok tt)
+IsAccepted net timing file (Ok passed) = (nodes : NodeNet) × IsMapped net timing nodes × Says file nodes timing (Ok tt)
 IsAccepted net timing file (Err outcome) =
-    (nodes : NodeNet) × AreItems net timing nodes × (why : CheckNo) × (why ≢ Memory) × Says file nodes timing (Err why)
+    (nodes : NodeNet) × IsMapped net timing nodes × (why : CheckNo) × (why ≢ Memory) × Says file nodes timing (Err why)
     × (outcome ≡ refusal status.ImageMatch (match_line why))

@@ -3,7 +3,7 @@
 ghost use Rattle.std.specs.Prelude.{◌≡◌, Ok, IfOk, IfErr, OnOk};
 ghost use Rattle.image_defs.specs.Claimed.{HasClaims};
 ghost use Rattle.net_defs.specs.Valid.{IsValid, IsValidTiming};
-ghost use Rattle.node_defs.specs.Order.{AreItems};
+ghost use Rattle.node_defs.specs.Order.{IsMapped};
 ghost use Rattle.call_steps.specs.{Checks.HasNoLoop, Checks.Refuses, Images.IsImageOf, Images.IsAccepted, Refused.refused_of};
 
 use crate::checks::Built;
@@ -31,7 +31,7 @@ pub fn items_of<'a>(alloc: Global, net: Netlist, timing: &Timing) -> Result<Mapp
     requires net { IsValid net }
     requires timing { IsValidTiming timing.now }
     ensures same { IfOk result (λ mapped. mapped.net ≡ net) }
-    ensures items { IfOk result (λ mapped. AreItems net timing.now mapped.nodes) }
+    ensures items { IfOk result (λ mapped. IsMapped net timing.now mapped.nodes) }
     ensures acyclic { OnOk result (HasNoLoop net timing.now (Ok tt)) }
     ensures looped { IfErr result (λ no. Refuses (HasNoLoop net timing.now) (refused_of no)) }
 {
@@ -54,7 +54,7 @@ pub fn accepted<'a>(
     file: ImageFile,
 ) -> Result<Built, Refusal<'a>>
     requires net { IsValid mapped.net }
-    requires items { AreItems mapped.net timing.now mapped.nodes }
+    requires items { IsMapped mapped.net timing.now mapped.nodes }
     requires claims { HasClaims file }
     ensures same { IfOk result (λ built. (built.net ≡ mapped.net) × (built.image ≡ file.image)) }
     ensures image { IfOk result (λ built. IsImageOf mapped.net timing.now built.image) }

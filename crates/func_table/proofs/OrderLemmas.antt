@@ -38,7 +38,7 @@ turned tables others Uses Twins pairs = record {
 }
 
 -- of different tables, two with the same entries have one number
-pub one_number : (tables : List Table) → AreDifferent tables → (n m : ℕ) (one other : Table) → slice_get tables n ≡ Some one → slice_get tables m ≡ Some other → AreAlike one other → n ≡ m
+one_number : (tables : List Table) → AreDifferent tables → (n m : ℕ) (one other : Table) → slice_get tables n ≡ Some one → slice_get tables m ≡ Some other → AreAlike one other → n ≡ m
 one_number tables different n m one other here there alike = elim (cases_lt n m) [
   | inl less ↦ absurd (clash n m one other less here there alike)
   | inr most ↦ elim (cases_lt m n) [

@@ -1,13 +1,11 @@
--- Of the same items at the same homes in the same slots one image is built, whichever numbers their tables have.
-use Rattle.std.proofs.Common.{◌≡◌, ◌⊎◌, ◌∙◌, inl, inr, ℕ, ◌+◌, ◌<◌, ◌≤◌, List, length, map, Some, slice_get, refl, sym, ap, subst, arith, true, false}
+-- Of items at their homes in their slots one image is built.
+use Rattle.std.proofs.Common.{◌≡◌, ◌⊎◌, ◌∙◌, inl, inr, ℕ, ◌<◌, List, length, map, Some, slice_get, refl, sym, ap, subst, arith, true, false}
 use Rattle.std.proofs.lemmas.{List.length-map, Option.slice_get_within}
 use Rattle.list_laws.proofs.{Members.member_at, Members.mapped_at, Members.listed, Options.one_some}
 use Rattle.net_defs.specs.declared.timing.Timing.{Timing}
-use Rattle.func_table.specs.{declared.table.Table.Table, Entries.AreAlike, Entries.looked_up, Entries.entry_for}
-use Rattle.func_table.proofs.EntryLemmas.{same_entries}
-use Rattle.logic_four.specs.declared.V4.{V4}
-use Rattle.node_defs.specs.declared.items.{Tag.TheVariants.This, Tag.TheVariants.Last, Feed.TheVariants.From, Feeds.Feeds, Item.Item, NodeBlock.NodeBlock}
-use Rattle.node_defs.specs.{declared.items.NodeNet.NodeNet, Same.AreSameItem, Same.AreSameItems, Same.IsSameTable, WellFormed.column_count}
+use Rattle.func_table.specs.{declared.table.Table.Table, Entries.AreAlike}
+use Rattle.node_defs.specs.declared.items.{Tag.TheVariants.This, Feed.TheVariants.From, Feeds.Feeds, Item.Item, NodeBlock.NodeBlock}
+use Rattle.node_defs.specs.declared.items.NodeNet.{NodeNet}
 use Rattle.node_defs.specs.declared.items.Item.TheVariants as item
 use Rattle.image_defs.specs.Places.{Each, IsPort, item_slots, printed_of, task_slot}
 use Rattle.image_defs.specs.Matches.{claims_of, IsClaim, Carries, TaskImplements, Implements, BitImplements, InputImplements, Matches}
@@ -16,12 +14,12 @@ use Rattle.image_defs.specs.declared.image.{InColumn.InColumn, Work.Work, Work.T
 use Rattle.image_defs.specs.{declared.image.PortImage.PortImage, declared.image.Image.Image, WellFormed.IsWork}
 use Rattle.image_defs.specs.Places as places
 use Rattle.image_defs.proofs.lemmas.PlaceLemmas.{rises, place_found}
-use Rattle.plan_defs.specs.{declared.plan.Homes.Homes, Homes.block_home, Homes.host_of, Homes.ports_of, Lists.Lists, Slots.slot_of}
+use Rattle.plan_defs.specs.{declared.plan.Homes.Homes, Homes.block_home, Homes.host_of, Slots.slot_of}
 use Rattle.switch_set.proofs.lemmas.SameLemmas.{one_lists}
-use Rattle.image_build.specs.Built.{Evaluates, AreBlocksOf, IsOrdered, ArePortMemories}
+use Rattle.image_build.specs.Built.{Evaluates, IsOrdered}
 use Rattle.image_build.specs.code.Layouts.{source_of, feed_source, block_for}
-use Rattle.func_table.proofs.OrderLemmas.{AreTwins, ArePaired, same_numbers, same_tables}
-use Rattle.image_build.proofs.PlacedLemmas.{same_by, IsPlacedBy, IsTaskLike, carried_source, memory_is, task_like}
+use Rattle.func_table.proofs.OrderLemmas.{AreTwins, ArePaired, same_by, same_numbers, same_tables}
+use Rattle.image_build.proofs.PlacedLemmas.{IsPlacedBy, IsTaskLike, carried_source, memory_is, task_like}
 use Rattle.image_build.proofs.{MemberLemmas.made_there, WorkLemmas.eval_for}
 
 -- an image that is built of items at their homes in these slots, by these claims
@@ -117,11 +115,6 @@ module _ {nodes : NodeNet} {homes : Homes} {slots : List ℕ} {claims : List (Li
 
 -- ---- two images
 
--- tables that two items look up have the same entries
-same_looked : (tables others : List Table) (t u : ℕ) (one other : Table) → IsSameTable tables others t u → slice_get tables t ≡ Some one → slice_get others u ≡ Some other → AreAlike one other
-same_looked tables others t u one other same here there =
-    same_entries one other (λ a b c d. ap (λ o. looked_up o a b c d) (sym here) ∙ same a b c d ∙ ap (λ o. looked_up o a b c d) there)
-
 -- two tasks that differ in the numbers of their tables alone
 record AreEvals (homes : Homes) (slots : List ℕ) (p x : ℕ) (tables others : List Table) (task twin : Task) : Type 0 where
   n : ℕ
@@ -142,36 +135,29 @@ abbrev number_in : Task → ℕ
 number_in (Eval slot n a b c d) = n
 number_in (Hold slot from) = 0
 
-module _ (one other : NodeNet) (same : AreSameItems one other) (homes : Homes) (slots : List ℕ) where
-  two_tasks : (p x : ℕ) (tables others : List Table) (i j : Item) (task twin : Task) → AreSameItem one.tables other.tables i j
-      → IsTaskLike one homes slots p tables x i task → IsTaskLike other homes slots p others x j twin → AreEvals homes slots p x tables others task twin ⊎ AreHolds task twin
-  two_tasks p x tables others (item.Node t feeds) (item.Node u also) task twin (feeds_same, table_same) (n, first, mine, task_is, here, there, alike) (m, second, theirs, twin_is, here_too, there_too, alike_too) =
-      inl (record {
-        n = n;
-        m = m;
-        feeds = feeds;
-        one = task_is;
-        other = twin_is ∙ ap (eval_for homes slots p x m) (sym feeds_same);
-        alike = record {
-          one = first;
-          other = second;
-          one_is = here;
-          other_is = here_too;
-          alike = λ e low. alike e low ∙ same_looked one.tables other.tables t u mine theirs table_same there there_too e low ∙ sym (alike_too e low);
-        };
-      })
-  two_tasks p x tables others (item.Latch op) (item.Latch also) task twin op_same task_is twin_is =
-      inr (record { slot = slot_of slots x; from = source_of homes slots p op true; one = task_is; other = twin_is ∙ ap (λ o. Hold (slot_of slots x) (source_of homes slots p o true)) (sym (latch_of op also op_same)) }) where
-        latch_of : (a b : ℕ) → item.Latch a ≡ item.Latch b → a ≡ b
-        latch_of a b e = cc
-  two_tasks p x tables others (item.Node t feeds) (item.Latch also) task twin apart like none = let never : ⊥ = cc in absurd never
-  two_tasks p x tables others (item.Latch op) (item.Node u also) task twin apart like none = let never : ⊥ = cc in absurd never
-  two_tasks p x tables others (item.Node t feeds) (item.Input column) task twin apart like none = absurd none
-  two_tasks p x tables others (item.Node t feeds) (item.BlockBit m bit) task twin apart like none = absurd none
-  two_tasks p x tables others (item.Latch op) (item.Input column) task twin apart like none = absurd none
-  two_tasks p x tables others (item.Latch op) (item.BlockBit m bit) task twin apart like none = absurd none
-  two_tasks p x tables others (item.Input column) j task twin apart none like = absurd none
-  two_tasks p x tables others (item.BlockBit m bit) j task twin apart none like = absurd none
+-- the tasks of one item
+two_tasks : (nodes : NodeNet) (homes : Homes) (slots : List ℕ) (p x : ℕ) (tables others : List Table) (i : Item) (task twin : Task)
+    → IsTaskLike nodes homes slots p tables x i task → IsTaskLike nodes homes slots p others x i twin → AreEvals homes slots p x tables others task twin ⊎ AreHolds task twin
+two_tasks nodes homes slots p x tables others (item.Node t feeds) task twin (n, first, mine, task_is, here, there, alike) (m, second, theirs, twin_is, here_too, there_too, alike_too) =
+    let same : mine ≡ theirs = one_some mine theirs (sym there ∙ there_too) in
+    inl (record {
+      n = n;
+      m = m;
+      feeds = feeds;
+      one = task_is;
+      other = twin_is;
+      alike = record {
+        one = first;
+        other = second;
+        one_is = here;
+        other_is = here_too;
+        alike = λ e low. alike e low ∙ sym (subst (AreAlike second) (sym same) alike_too e low);
+      };
+    })
+two_tasks nodes homes slots p x tables others (item.Latch op) task twin task_is twin_is =
+    inr (record { slot = slot_of slots x; from = source_of homes slots p op true; one = task_is; other = twin_is })
+two_tasks nodes homes slots p x tables others (item.Input column) task twin none like = absurd none
+two_tasks nodes homes slots p x tables others (item.BlockBit m bit) task twin none like = absurd none
 
 -- an item that an output bit or an input does
 bit_named : (image : Image) (claims : List (List ℕ)) (nodes : NodeNet) (p : ℕ) (ins : List LinkIn) (blocks : List BlockWork) (out : OutBit) (i : Item) → BitImplements image claims nodes p ins blocks out i
@@ -187,11 +173,11 @@ input_named input (item.BlockBit m bit) done = absurd done
 input_named input (item.Node t feeds) done = absurd done
 input_named input (item.Latch op) done = absurd done
 
-same_bit : (tables others : List Table) (m bit n also : ℕ) → AreSameItem tables others (item.BlockBit m bit) (item.BlockBit n also) → (m ≡ n) × (bit ≡ also)
-same_bit tables others m bit n also same = (cc, cc)
+same_bit : (m bit n also : ℕ) → item.BlockBit m bit ≡ item.BlockBit n also → (m ≡ n) × (bit ≡ also)
+same_bit m bit n also same = (cc, cc)
 
-same_column : (tables others : List Table) (column also : ℕ) → AreSameItem tables others (item.Input column) (item.Input also) → column ≡ also
-same_column tables others column also same = cc
+same_column : (column also : ℕ) → item.Input column ≡ item.Input also → column ≡ also
+same_column column also same = cc
 
 same_out : (out twin : OutBit) → out.slot ≡ twin.slot → out.block ≡ twin.block → out.bit ≡ twin.bit → out ≡ twin
 same_out out twin slot block bit =
@@ -209,10 +195,10 @@ AreAll Whole (Logic tables tasks) = Each Whole tables
 AreAll Whole (Array blocks outs) = Unit {0}
 AreAll Whole (Host inputs printed) = Unit {0}
 
-module _ {one other : NodeNet} {homes : Homes} {slots : List ℕ} {claims : List (List ℕ)} {timing : Timing} {first second : Image}
-    (same : AreSameItems one other) (is : IsBuiltBy one homes slots claims timing first) (is_too : IsBuiltBy other homes slots claims timing second)
+module _ {nodes : NodeNet} {homes : Homes} {slots : List ℕ} {claims : List (List ℕ)} {timing : Timing} {first second : Image}
+    (is : IsBuiltBy nodes homes slots claims timing first) (is_too : IsBuiltBy nodes homes slots claims timing second)
     (p : ℕ) (port twin : PortImage) (at : IsPort first p port) (at_too : IsPort second p twin) where
-  module _ (tables others : List Table) (tasks twins : List Task) (work : Does one homes slots claims first p port (Logic tables tasks)) (work_too : Does other homes slots claims second p twin (Logic others twins)) where
+  module _ (tables others : List Table) (tasks twins : List Task) (work : Does nodes homes slots claims first p port (Logic tables tasks)) (work_too : Does nodes homes slots claims second p twin (Logic others twins)) where
     as_many : length tasks ≡ length twins
     as_many = count_is is p port at task_slot tasks work.slots_are ∙ sym (count_is is_too p twin at_too task_slot twins work_too.slots_are)
 
@@ -227,7 +213,8 @@ module _ {one other : NodeNet} {homes : Homes} {slots : List ℕ} {claims : List
         let claim = claim_there is p port at task_slot tasks i task work.slots_are here in
         let mine = task_told is p port at tables tasks work i claim.0 task claim.1 here in
         let theirs = task_told is_too p twin at_too others twins work_too i claim.0 also claim.1 there in
-        (claim.0, two_tasks one other same homes slots p claim.0 tables others mine.0 theirs.0 task also (same.items claim.0 mine.0 theirs.0 mine.1 theirs.1) mine.2 theirs.2)
+        let same : mine.0 ≡ theirs.0 = one_some mine.0 theirs.0 (sym mine.1 ∙ theirs.1) in
+        (claim.0, two_tasks nodes homes slots p claim.0 tables others mine.0 task also mine.2 (subst (λ i. IsTaskLike nodes homes slots p others claim.0 i also) (sym same) theirs.2))
 
     no_hold : (slot n : ℕ) (a b c d : Source) (s : ℕ) (from : Source) → Eval slot n a b c d ≡ Hold s from → ⊥
     no_hold slot n a b c d s from e = cc
@@ -300,18 +287,17 @@ module _ {one other : NodeNet} {homes : Homes} {slots : List ℕ} {claims : List
         ap (λ ts. Logic ts tasks) (same_tables tables others (Evaluates tasks) (Evaluates twins) work.ordered.1 work_too.ordered.1 paired (λ n m t u here there. decided t u (whole n t here) (whole_too m u there)))
         ∙ ap (Logic others) tasks_same
 
-  module _ (blocks others : List BlockWork) (outs twins : List OutBit) (work : Does one homes slots claims first p port (Array blocks outs)) (work_too : Does other homes slots claims second p twin (Array others twins)) where
+  module _ (blocks others : List BlockWork) (outs twins : List OutBit) (work : Does nodes homes slots claims first p port (Array blocks outs)) (work_too : Does nodes homes slots claims second p twin (Array others twins)) where
     numbers_same : work.ordered.2.numbers ≡ work_too.ordered.2.numbers
     numbers_same =
-        one_lists (λ m. (m < length other.blocks) × (block_home homes m ≡ p)) work.ordered.2.numbers work_too.ordered.2.numbers
-        (subst (λ (bs : List NodeBlock). Lists (λ m. (m < length bs) × (block_home homes m ≡ p)) work.ordered.2.numbers) same.blocks work.ordered.2.lists) work_too.ordered.2.lists
+        one_lists (λ m. (m < length nodes.blocks) × (block_home homes m ≡ p)) work.ordered.2.numbers work_too.ordered.2.numbers work.ordered.2.lists work_too.ordered.2.lists
 
     blocks_same : blocks ≡ others
     blocks_same = same_by blocks others (work.ordered.2.as_many ∙ ap length numbers_same ∙ sym work_too.ordered.2.as_many) (λ k block also here there.
         let known = memory_there is p port at blocks outs work k block here in
         block_told is p port at blocks outs work k known.0 block known.1 here known.2 known.3
         ∙ sym (block_told is_too p twin at_too others twins work_too k known.0 also known.1 there
-        (subst (λ (xs : List ℕ). slice_get xs k ≡ Some known.0) numbers_same known.2) (subst (λ (bs : List NodeBlock). slice_get bs known.0 ≡ Some known.1) same.blocks known.3)))
+        (subst (λ (xs : List ℕ). slice_get xs k ≡ Some known.0) numbers_same known.2) known.3))
 
     outs_same : outs ≡ twins
     outs_same =
@@ -319,9 +305,9 @@ module _ {one other : NodeNet} {homes : Homes} {slots : List ℕ} {claims : List
         let claim = claim_there is p port at (λ (o : OutBit). o.slot) outs i out work.slots_are here in
         let mine = out_told is p port at blocks outs work i claim.0 out claim.1 here in
         let theirs = out_told is_too p twin at_too others twins work_too i claim.0 also claim.1 there in
-        let bit = bit_named first claims one p port.ins blocks out mine.0 mine.2 in
-        let bit_too = bit_named second claims other p twin.ins others also theirs.0 theirs.2 in
-        let parts = same_bit one.tables other.tables bit.0 bit.1 bit_too.0 bit_too.1 (subst (λ j. AreSameItem one.tables other.tables j (item.BlockBit bit_too.0 bit_too.1)) bit.2 (subst (AreSameItem one.tables other.tables mine.0) bit_too.2 (same.items claim.0 mine.0 theirs.0 mine.1 theirs.1))) in
+        let bit = bit_named first claims nodes p port.ins blocks out mine.0 mine.2 in
+        let bit_too = bit_named second claims nodes p twin.ins others also theirs.0 theirs.2 in
+        let parts = same_bit bit.0 bit.1 bit_too.0 bit_too.1 (sym bit.2 ∙ one_some mine.0 theirs.0 (sym mine.1 ∙ theirs.1) ∙ bit_too.2) in
         let place : slice_get work_too.ordered.2.numbers out.block ≡ Some bit_too.0 =
         subst (λ (xs : List ℕ). slice_get xs out.block ≡ Some bit_too.0) numbers_same (work.ordered.2.bits i claim.0 bit.0 bit.1 out here claim.1 (mine.1 ∙ ap Some bit.2) ∙ ap Some parts.0) in
         let place_too = work_too.ordered.2.bits i claim.0 bit_too.0 bit_too.1 also there claim.1 (theirs.1 ∙ ap Some bit_too.2) in
@@ -333,7 +319,7 @@ module _ {one other : NodeNet} {homes : Homes} {slots : List ℕ} {claims : List
     array_same : Array blocks outs ≡ Array others twins
     array_same = ap (λ bs. Array bs outs) blocks_same ∙ ap (Array others) outs_same
 
-  module _ (inputs others : List InColumn) (printed twins : List Source) (work : Does one homes slots claims first p port (Host inputs printed)) (work_too : Does other homes slots claims second p twin (Host others twins)) where
+  module _ (inputs others : List InColumn) (printed twins : List Source) (work : Does nodes homes slots claims first p port (Host inputs printed)) (work_too : Does nodes homes slots claims second p twin (Host others twins)) where
     inputs_same : inputs ≡ others
     inputs_same =
         same_by inputs others (count_is is p port at (λ (o : InColumn). o.slot) inputs work.slots_are ∙ sym (count_is is_too p twin at_too (λ (o : InColumn). o.slot) others work_too.slots_are)) (λ i input also here there.
@@ -342,16 +328,16 @@ module _ {one other : NodeNet} {homes : Homes} {slots : List ℕ} {claims : List
         let theirs = input_told is_too p twin at_too others twins work_too i claim.0 also claim.1 there in
         let named = input_named input mine.0 mine.2 in
         let named_too = input_named also theirs.0 theirs.2 in
-        let column = same_column one.tables other.tables named.0 named_too.0 (subst (λ j. AreSameItem one.tables other.tables j (item.Input named_too.0)) named.1 (subst (AreSameItem one.tables other.tables mine.0) named_too.1 (same.items claim.0 mine.0 theirs.0 mine.1 theirs.1))) in
+        let column = same_column named.0 named_too.0 (sym named.1 ∙ one_some mine.0 theirs.0 (sym mine.1 ∙ theirs.1) ∙ named_too.1) in
         same_input input also (mine.3 ∙ sym theirs.3) (named.2 ∙ column ∙ sym named_too.2))
 
     host_same : Host inputs printed ≡ Host others twins
     host_same =
         ap (λ xs. Host xs printed) inputs_same
-        ∙ ap (Host others) (printed_told is p port at inputs printed work ∙ ap (map (λ o. source_of homes slots p o false)) same.printed ∙ sym (printed_told is_too p twin at_too others twins work_too))
+        ∙ ap (Host others) (printed_told is p port at inputs printed work ∙ sym (printed_told is_too p twin at_too others twins work_too))
 
   works_same : (Whole : Table → Type 0) → ((t u : Table) → Whole t → Whole u → AreAlike t u → t ≡ u) → (work also : Work)
-      → Does one homes slots claims first p port work → Does other homes slots claims second p twin also → AreAll Whole work → AreAll Whole also → work ≡ also
+      → Does nodes homes slots claims first p port work → Does nodes homes slots claims second p twin also → AreAll Whole work → AreAll Whole also → work ≡ also
   works_same Whole decided (Logic tables tasks) (Logic others twins) done done_too whole whole_too = logic_same tables others tasks twins done done_too Whole decided whole whole_too
   works_same Whole decided (Array blocks outs) (Array others twins) done done_too whole whole_too = array_same blocks others outs twins done done_too
   works_same Whole decided (Host inputs printed) (Host others twins) done done_too whole whole_too = host_same inputs others printed twins done done_too
@@ -363,20 +349,20 @@ module _ {one other : NodeNet} {homes : Homes} {slots : List ℕ} {claims : List
   works_same Whole decided (Host inputs printed) (Array others twins) done done_too whole whole_too = (let high = done.ordered in let low = done_too.ordered.1 in absurd (omega (arith, low, high)))
 
 -- images whose ports send and receive alike, with tables that are what their entries say, are one
-pub one_built : (one other : NodeNet) (homes : Homes) (slots : List ℕ) (claims : List (List ℕ)) (timing : Timing) (first second : Image) (Whole : Table → Type 0)
-    → AreSameItems one other → column_count one ≡ column_count other → IsBuiltBy one homes slots claims timing first → IsBuiltBy other homes slots claims timing second → first.slots ≡ second.slots
+pub one_built : (nodes : NodeNet) (homes : Homes) (slots : List ℕ) (claims : List (List ℕ)) (timing : Timing) (first second : Image) (Whole : Table → Type 0)
+    → IsBuiltBy nodes homes slots claims timing first → IsBuiltBy nodes homes slots claims timing second → first.slots ≡ second.slots
     → ((t u : Table) → Whole t → Whole u → AreAlike t u → t ≡ u) → Each (λ port. AreAll Whole port.work) first.ports → Each (λ port. AreAll Whole port.work) second.ports
     → ((p : ℕ) (port twin : PortImage) → IsPort first p port → IsPort second p twin → (port.outs ≡ twin.outs) × (port.ins ≡ twin.ins)) → first ≡ second
-one_built one other homes slots claims timing first second Whole same columns is is_too few decided whole whole_too linked =
+one_built nodes homes slots claims timing first second Whole is is_too few decided whole whole_too linked =
     ap (λ n. record { slots = n; units = first.units; init = first.init; columns = first.columns; ports = first.ports }) few
     ∙ ap (λ n. record { slots = second.slots; units = n; init = first.init; columns = first.columns; ports = first.ports }) (is.matches.units ∙ sym is_too.matches.units)
     ∙ ap (λ i. record { slots = second.slots; units = second.units; init = i; columns = first.columns; ports = first.ports }) (is.matches.init ∙ sym is_too.matches.init)
-    ∙ ap (λ n. record { slots = second.slots; units = second.units; init = second.init; columns = n; ports = first.ports }) (is.matches.columns ∙ columns ∙ sym is_too.matches.columns)
+    ∙ ap (λ n. record { slots = second.slots; units = second.units; init = second.init; columns = n; ports = first.ports }) (is.matches.columns ∙ sym is_too.matches.columns)
     ∙ ap (λ ps. record { slots = second.slots; units = second.units; init = second.init; columns = second.columns; ports = ps }) ports_same where
       ports_same : first.ports ≡ second.ports
       ports_same = same_by first.ports second.ports (sym is.placed.ports ∙ is_too.placed.ports) (λ p port twin at at_too.
           let links = linked p port twin at at_too in
           ap (λ w. record { work = w; outs = port.outs; ins = port.ins })
-          (works_same same is is_too p port twin at at_too Whole decided port.work twin.work (does is p port at port.work refl) (does is_too p twin at_too twin.work refl) (whole p port at) (whole_too p twin at_too))
+          (works_same is is_too p port twin at at_too Whole decided port.work twin.work (does is p port at port.work refl) (does is_too p twin at_too twin.work refl) (whole p port at) (whole_too p twin at_too))
           ∙ ap (λ o. record { work = twin.work; outs = o; ins = port.ins }) links.0
           ∙ ap (λ i. record { work = twin.work; outs = twin.outs; ins = i }) links.1)

@@ -1,10 +1,11 @@
 -- What a port of a built image takes and does is told by the plan: each source, each memory and each task, but for the
 -- numbers of tables.
-use Rattle.std.proofs.Common.{◌≡◌, ◌≢◌, ◌∙◌, ℕ, zero, suc, ◌<◌, Bool, true, false, List, [], ◌∷◌, length, map, Some, slice_get, refl, sym, ap, subst, arith}
+use Rattle.std.proofs.Common.{◌≡◌, ◌≢◌, ◌∙◌, ℕ, ◌<◌, Bool, true, List, length, map, Some, slice_get, sym, ap, arith}
 use Rattle.std.proofs.lemmas.{List.length-map, Option.slice_get_within}
 use Rattle.list_laws.proofs.{Members.mapped_at, Options.one_some}
 use Rattle.func_table.specs.{declared.table.Table.Table, Entries.AreAlike}
-use Rattle.node_defs.specs.declared.items.{Tag.TheVariants.This, Tag.TheVariants.Last, Feed.Feed, Feed.TheVariants.From, Feed.TheVariants.Fixed, Item.Item}
+use Rattle.func_table.proofs.OrderLemmas.{same_by}
+use Rattle.node_defs.specs.declared.items.{Tag.TheVariants.Last, Feed.Feed, Feed.TheVariants.From, Feed.TheVariants.Fixed, Item.Item}
 use Rattle.node_defs.specs.declared.items.{NodeBlock.NodeBlock, NodeNet.NodeNet}
 use Rattle.node_defs.specs.declared.items.Item.TheVariants as item
 use Rattle.image_defs.specs.Places.{Each, IsPort, item_slots, task_slot, sender_in}
@@ -16,14 +17,6 @@ use Rattle.image_defs.proofs.lemmas.PlaceLemmas.{sender_found}
 use Rattle.plan_defs.specs.{declared.plan.Homes.Homes, Homes.home_of, Homes.ports_of, Slots.slot_of}
 use Rattle.image_build.specs.{PortItems.IsAt, PortItems.ArePlanClaims, code.Layouts.source_of, code.Layouts.feed_source, code.Layouts.block_for}
 use Rattle.image_build.proofs.{MemberLemmas.made_there, SourceLemmas.own_source, SourceLemmas.got_source, WorkLemmas.eval_for, WorkLemmas.pasts}
-
--- lists of one length with the same members at each place are one list
-pub same_by : {X : Type 0} (xs ys : List X) → length xs ≡ length ys → ((k : ℕ) (x y : X) → slice_get xs k ≡ Some x → slice_get ys k ≡ Some y → x ≡ y) → xs ≡ ys
-same_by [] [] long same = refl
-same_by [] (y ∷ ys) long same = absurd (omega (arith, long))
-same_by (x ∷ xs) [] long same = absurd (omega (arith, long))
-same_by (x ∷ xs) (y ∷ ys) long same =
-    ap (λ z. z ∷ xs) (same 0 x y refl refl) ∙ ap (λ zs. y ∷ zs) (same_by xs ys (omega (arith, long)) (λ k. same (suc k)))
 
 -- an image in which what each port claims stands as the plan says
 pub record IsPlacedBy (nodes : NodeNet) (homes : Homes) (slots : List ℕ) (claims : List (List ℕ)) (image : Image) : Type 0 where

@@ -3,7 +3,7 @@
 use Rattle.std.specs.Prelude.{◌≡◌, ℕ, ◌*◌, ◌<◌, ◌≤◌, List, length, map, Some, slice_get}
 use Rattle.logic_four.specs.Values.{value_at}
 use Rattle.net_defs.specs.{declared.timing.Timing.Timing, declared.stimulus.Stimulus.Stimulus, Steps.State}
-use Rattle.func_table.specs.{declared.table.Table.Table, Shelf.AreInOrderOfUse}
+use Rattle.func_table.specs.Shelf.{AreInOrderOfUse}
 use Rattle.node_defs.specs.declared.items.{Item.TheVariants.BlockBit, NodeBlock.NodeBlock, NodeNet.NodeNet}
 use Rattle.image_defs.specs.Matches.{claims_of, IsClaim, Matches, MemoryImplements}
 use Rattle.image_defs.specs.declared.image.{Source.Source, Task.Task, Task.TheVariants.Eval, BlockWork.BlockWork, OutBit.OutBit, Work.Work}

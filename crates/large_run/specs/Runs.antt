@@ -5,7 +5,7 @@ use Rattle.large_run.specs.{declared.summary.Summary.Summary, Large.gate_state, 
 use Rattle.large_run.specs.{Summaries.counts_of, Summaries.summary_text, Setting.large_machine, Setting.large_timing}
 use Rattle.logic_four.specs.declared.V4.{V4}
 use Rattle.net_defs.specs.{declared.netlist.Netlist.Netlist, declared.timing.Timing.Timing, Reference.IsSimulation, Steps.State, Trace.cells_of}
-use Rattle.node_defs.specs.{declared.items.NodeNet.NodeNet, Order.AreItems}
+use Rattle.node_defs.specs.{declared.items.NodeNet.NodeNet, Order.IsMapped}
 use Rattle.plan_defs.specs.{declared.plan.Homes.Homes, declared.plan.Plan.Plan, Picks.ArePicked, Slots.IsFirstFitPlan}
 use Rattle.plan_text.specs.Counted.{AreCrossings}
 
@@ -28,7 +28,7 @@ summary_of gates nodes plan crossings cells = record {
 -- rows that are drawn after the gates
 pub record IsSummaryOf (gates cycles : ℕ) (output : List ℕ) : Type 0 where
   pub nodes : NodeNet
-  pub items : AreItems (large_netlist gates) large_timing nodes
+  pub items : IsMapped (large_netlist gates) large_timing nodes
   pub homes : Homes
   pub picked : ArePicked nodes large_machine homes
   pub plan : Plan

@@ -11,11 +11,11 @@ ghost use Rattle.yse_compile.specs.Designs.{DesignFits, LacksFunctions};
 
 use node_defs::law::one_list;
 use node_map::law::items_exist;
-use plan_defs::law::{few_slots, items_are_well_formed};
+use plan_defs::law::{few_slots, items_are_well_formed, one_plan};
 use plan_text::law::one_crossing_count;
 use rank_find::order_or_loop;
 use ref_sim::one_simulation;
-use yse_compile::law::{fits_or_refused, one_homes, one_need};
+use yse_compile::law::{fits_or_refused, one_homes};
 
 /// A law: the gates of one to four operands have at most 31 different tables, so the nodes of a netlist
 /// use no more, and on a machine each of whose logic processors has room for so many, no design is refused
@@ -58,8 +58,8 @@ pub fn one_summary()
     large_fits();
     one_list();
     one_homes();
-    one_need();
     items_are_well_formed();
+    one_plan();
     one_crossing_count();
     one_simulation();
 }

@@ -1,5 +1,4 @@
 mod ChainLemmas
-mod FreeLemmas
 mod GateLemmas
 pub mod lemmas
 mod NodeLemmas

@@ -20,7 +20,7 @@ use Rattle.func_table.proofs.{EntryLemmas.same_entries, OrderLemmas.AreTwins, Or
 use Rattle.node_defs.proofs.{SeenLemmas.item_named, lemmas.EarlierLemmas.earlier, lemmas.EarlierLemmas.table_words}
 
 -- two items are the same, but for the numbers of their tables, which have the same entries
-abbrev pub AreSameItem : List Table → List Table → Item → Item → Type 0
+abbrev AreSameItem : List Table → List Table → Item → Item → Type 0
 AreSameItem tables others (Node t feeds) (Node u others_feeds) = (feeds ≡ others_feeds) × AreTwins tables others t u
 AreSameItem tables others one other = one ≡ other
 
@@ -325,7 +325,7 @@ module _ (net : Netlist) (timing : Timing) (one other : NodeNet) (first : AreIte
   feeds_same f g same =
       four_same f.a f.b f.c f.d g.a g.b g.c g.d (feed_same f.a g.a (same 0)) (feed_same f.b g.b (same 1)) (feed_same f.c g.c (same 2)) (feed_same f.d g.d (same 3))
 
-  pub items_same : (x : ℕ) (i j : Item) → slice_get one.items x ≡ Some i → slice_get other.items x ≡ Some j → AreSameItem one.tables other.tables i j
+  items_same : (x : ℕ) (i j : Item) → slice_get one.items x ≡ Some i → slice_get other.items x ≡ Some j → AreSameItem one.tables other.tables i j
   items_same x i j one_at other_at = by_same (name_same net timing one other first second name.0 i j one_is other_is) where
     name : (n : ItemName) × (slice_get one.names x ≡ Some n)
     name = member_at one.names x (omega (arith, first.named, slice_get_within one.items x i one_at))

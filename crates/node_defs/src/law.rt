@@ -4,7 +4,7 @@ ghost use Rattle.std.specs.Prelude.{◌≡◌, ◌<◌, ℕ, List as Items, leng
 ghost use Rattle.net_defs.specs.{declared.netlist.Netlist.Netlist, declared.timing.Timing.Timing, declared.stimulus.Stimulus.Stimulus, Steps.State};
 ghost use Rattle.net_defs.specs.Valid.{IsValid};
 ghost use Rattle.node_defs.specs.declared.items.{Tag.TheVariants.This, Feed.TheVariants.From, Feeds.Feeds, Item.TheVariants.Node, NodeNet.NodeNet};
-ghost use Rattle.node_defs.specs.{Items.feed_at, Order.AreItems, Order.IsMapped, Same.AreSameItems, Values.AreItemValues, Values.AreReferenceValues, Values.HaveOneRun};
+ghost use Rattle.node_defs.specs.{Items.feed_at, Order.AreItems, Order.IsMapped, Values.AreItemValues, Values.AreReferenceValues, Values.HaveOneRun};
 
 /// A law: an operand that is taken at this turn stands before the node that takes it. It does nothing.
 pub fn operands_are_earlier()
@@ -30,8 +30,6 @@ pub fn values_are_reference()
 /// A law: a netlist and a timing are mapped to one list of items; and whichever numbers the tables have, the items
 /// have the same names, and the same are printed and read by memories. It does nothing.
 pub fn one_list()
-    ensures same { (net : Netlist) (timing : Timing) (one other : NodeNet) → AreItems net timing one
-        → AreItems net timing other → AreSameItems one other }
     ensures alike { (net : Netlist) (timing : Timing) (one other : NodeNet) → AreItems net timing one
         → AreItems net timing other → (one.names ≡ other.names) × (length one.items ≡ length other.items)
         × (one.printed ≡ other.printed) × (one.blocks ≡ other.blocks) × (one.first_node ≡ other.first_node) }

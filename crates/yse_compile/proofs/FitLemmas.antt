@@ -3,7 +3,7 @@ use Rattle.std.proofs.Common.{◌≡◌, ◌∙◌, ◌⊎◌, inl, inr, ℕ, �
 use Rattle.std.proofs.lemmas.Bool.{cases_lt, cases_order}
 use Rattle.machine_text.specs.declared.machine.Machine.{Machine}
 use Rattle.net_defs.specs.declared.{netlist.Netlist.Netlist, timing.Timing.Timing}
-use Rattle.node_defs.specs.{declared.items.NodeNet.NodeNet, Order.AreItems, Same.AreSameItems}
+use Rattle.node_defs.specs.{declared.items.NodeNet.NodeNet, Order.IsMapped}
 use Rattle.plan_defs.specs.Tables.{UsesTable, UsesTables, FitsTables, slot_limit, table_limit}
 use Rattle.plan_defs.specs.{declared.plan.Homes.Homes, declared.plan.Plan.Plan, Picks.ArePicked, Picks.FindsNoPort, Picks.HasTooManyNodes, Slots.IsFirstFitPlan}
 use Rattle.slot_plan.specs.Refusals.{IsCrowded, IsLong}
@@ -11,7 +11,6 @@ use Rattle.switch_set.proofs.lemmas.SameLemmas.{one_lists}
 use Rattle.yse_compile.specs.declared.compiler.CompNo.TheVariants.{Bits, Nodes, Slots, Functions}
 use Rattle.yse_compile.specs.{Chosen.HomesFit, declared.compiler.CompNo.CompNo, Designs.IsAcyclic, Designs.DesignFits, Compiled.IsRight, Compiled.IsOverfull}
 use Rattle.image_check.proofs.lemmas.KnownLemmas.{first_or_all}
-use Rattle.yse_compile.proofs.lemmas.{SamePlans.plan_kept, SameTables.tables_few}
 
 -- ---- items at their homes have a plan that fits, or are refused
 
@@ -43,29 +42,37 @@ module _ (nodes : NodeNet) (homes : Homes) (machine : Machine) (counted : (port 
     | inl past ↦ inr (inl (plan.needed, slot_limit machine, record { plan = plan; is = first_fit; needs = refl; most = refl; past = past }))
   ]
 
--- not both: a port's tables have one number
+-- a port's tables have one number
+one_count : (nodes : NodeNet) (homes : Homes) (port count other : ℕ) → UsesTables nodes homes port count → UsesTables nodes homes port other → count ≡ other
+one_count nodes homes port count other first second =
+    let same : first.numbers ≡ second.numbers = one_lists (UsesTable nodes homes port) first.numbers second.numbers first.lists second.lists in
+    let long : length first.numbers ≡ length second.numbers = ap length same in
+    omega (arith, long, first.are, second.are)
+
+-- so they are not both few enough and too many
+not_both : (nodes : NodeNet) (homes : Homes) (machine : Machine) (port needed : ℕ) → UsesTables nodes homes port needed → table_limit machine port < needed → FitsTables nodes homes machine port → ⊥
+not_both nodes homes machine port needed uses past few = omega (arith, one_count nodes homes port needed few.count uses few.uses, past, few.few)
+
 pub never_crowded : (nodes : NodeNet) (machine : Machine) (homes : Homes) → HomesFit nodes machine homes → (port needed limit : ℕ) → IsCrowded nodes homes machine port needed limit → ⊥
 never_crowded nodes machine homes fit port needed limit crowded =
-    let here = fit.fits.tables port crowded.logic in
-    let same : here.uses.numbers ≡ crowded.uses.numbers = one_lists (UsesTable nodes homes port) here.uses.numbers crowded.uses.numbers here.uses.lists crowded.uses.lists in
-    let long : length here.uses.numbers ≡ length crowded.uses.numbers = ap length same in
-    omega (arith, long, here.uses.are, crowded.uses.are, here.few, crowded.most, crowded.past)
+    not_both nodes homes machine port needed crowded.uses (subst (λ n. n < needed) crowded.most crowded.past) (fit.fits.tables port crowded.logic)
 
--- the same items fit at the same homes, whichever numbers their tables have
-pub fit_kept : (one other : NodeNet) (homes : Homes) (machine : Machine) → AreSameItems one other → AreSameItems other one
-    → ((port : ℕ) → (count : ℕ) × UsesTables other homes port count) → HomesFit one machine homes → HomesFit other machine homes
-fit_kept one other homes machine there back counted fit = record {
-  plan = fit.plan;
-  first_fit = plan_kept one other homes fit.plan there back fit.first_fit;
-  fits = record {
-    slots = fit.fits.slots;
-    tables = λ port low.
-        let had = fit.fits.tables port low in
-        let count = counted port in
-        let fewer = tables_few other one homes port count.0 had.count back count.1 had.uses in
-        record { count = count.0; uses = count.1; few = omega (arith, fewer, had.few) };
-  };
-}
+-- one port is the first whose tables are too many
+pub one_crowded : (nodes : NodeNet) (homes : Homes) (machine : Machine) (port needed limit next more most : ℕ)
+    → IsCrowded nodes homes machine port needed limit → IsCrowded nodes homes machine next more most → (port ≡ next) × (needed ≡ more) × (limit ≡ most)
+one_crowded nodes homes machine port needed limit next more most first second = elim (cases_order port next) [
+  | inr (inl below) ↦ absurd (not_both nodes homes machine port needed first.uses (subst (λ n. n < needed) first.most first.past) (second.before port below))
+  | inr (inr above) ↦ absurd (not_both nodes homes machine next more second.uses (subst (λ n. n < more) second.most second.past) (first.before next above))
+  | inl same ↦ (
+    same,
+    one_count nodes homes port needed more first.uses (subst (λ p. UsesTables nodes homes p more) (sym same) second.uses),
+    first.most ∙ (ap (table_limit machine) same ∙ sym second.most),
+  )
+]
+
+-- what is so of items and homes is so of the same
+pub moved : {nodes others : NodeNet} {homes other_homes : Homes} (P : NodeNet → Homes → Type 0) → nodes ≡ others → homes ≡ other_homes → P nodes homes → P others other_homes
+moved {others = others} {homes = homes} P same at is = subst (P others) at (subst (λ n. P n homes) same is)
 
 -- ---- a design fits or is refused
 
@@ -73,7 +80,7 @@ fit_kept one other homes machine there back counted fit = record {
 abbrev pub FitsOrNot : Netlist → Machine → Timing → Type 0
 FitsOrNot net machine timing = DesignFits net machine timing ⊎ ((refusal : CompNo) × IsRight net machine timing refusal × IsOverfull refusal)
 
-module _ (net : Netlist) (machine : Machine) (timing : Timing) (nodes : NodeNet) (acyclic : IsAcyclic net timing) (items : AreItems net timing nodes) where
+module _ (net : Netlist) (machine : Machine) (timing : Timing) (nodes : NodeNet) (acyclic : IsAcyclic net timing) (items : IsMapped net timing nodes) where
   pub plan_fits : (homes : Homes) → ArePicked nodes machine homes → HomesFit nodes machine homes ⊎ LacksPlan nodes homes machine → FitsOrNot net machine timing
   plan_fits homes picked (inl fit) = inl (record { acyclic = acyclic; nodes = nodes; items = items; homes = homes; picked = picked; plan = fit.plan; first_fit = fit.first_fit; fits = fit.fits })
   plan_fits homes picked (inr (inl (needed, limit, long))) = inr (Slots needed limit, record { acyclic = acyclic; nodes = nodes; items = items; homes = homes; picked = picked; long = long }, tt)
@@ -84,31 +91,3 @@ module _ (net : Netlist) (machine : Machine) (timing : Timing) (nodes : NodeNet)
 
   pub many_fits : (needed limit : ℕ) → HasTooManyNodes nodes machine needed limit → FitsOrNot net machine timing
   many_fits needed limit many = inr (Nodes needed limit, record { acyclic = acyclic; nodes = nodes; items = items; many = many }, tt)
-
--- ---- one port is the first whose tables are too many
-
-module _ (one other : NodeNet) (homes : Homes) (machine : Machine) (there : AreSameItems one other) where
-  not_both : (port needed : ℕ) → UsesTables one homes port needed → table_limit machine port < needed → FitsTables other homes machine port → ⊥
-  not_both port needed uses past few =
-      let up : needed ≤ few.count = tables_few one other homes port needed few.count there uses few.uses in
-      omega (arith, up, past, few.few)
-
-  pub one_port : (port needed limit next more most : ℕ) → IsCrowded one homes machine port needed limit → IsCrowded other homes machine next more most → (port < next → ⊥) × ((port ≡ next) → (needed ≤ more) × (limit ≡ most))
-  one_port port needed limit next more most first second = (
-    λ low. not_both port needed first.uses (subst (λ n. n < needed) first.most first.past) (second.before port low),
-    λ same. (
-      tables_few one other homes port needed more there first.uses (subst (λ p. UsesTables other homes p more) (sym same) second.uses),
-      first.most ∙ (ap (table_limit machine) same ∙ sym second.most),
-    ),
-  )
-
-pub one_crowded : (one other : NodeNet) (homes : Homes) (machine : Machine) (port needed limit next more most : ℕ) → AreSameItems one other → AreSameItems other one
-    → IsCrowded one homes machine port needed limit → IsCrowded other homes machine next more most → (port ≡ next) × (needed ≡ more) × (limit ≡ most)
-one_crowded one other homes machine port needed limit next more most there back first second =
-    let here = one_port one other homes machine there port needed limit next more most first second in
-    let over = one_port other one homes machine back next more most port needed limit second first in
-    elim (cases_order port next) [
-      | inr (inl below) ↦ absurd (here.0 below)
-      | inr (inr above) ↦ absurd (over.0 above)
-      | inl same ↦ (same, omega (arith, (here.1 same).0, (over.1 (sym same)).0), (here.1 same).1)
-    ]

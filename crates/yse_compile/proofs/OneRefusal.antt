@@ -2,7 +2,7 @@
 use Rattle.std.proofs.Common.{◌≡◌, ◌∙◌, ℕ, ap}
 use Rattle.machine_text.specs.declared.machine.Machine.{Machine}
 use Rattle.net_defs.specs.declared.{netlist.Netlist.Netlist, timing.Timing.Timing}
-use Rattle.node_defs.specs.{declared.items.NodeNet.NodeNet, Order.AreItems}
+use Rattle.node_defs.specs.{declared.items.NodeNet.NodeNet, Order.IsMapped}
 use Rattle.plan_defs.specs.{declared.plan.Homes.Homes, Picks.ArePicked}
 use Rattle.yse_compile.specs.declared.compiler.CompNo.TheVariants.{Loop, Bits, Slots, Functions, Memory, Nodes}
 use Rattle.yse_compile.specs.Designs.{LacksBits, LacksNodes, LacksSlots, LacksFunctions}
@@ -23,10 +23,10 @@ functions_same a b k m l n port needed limit = ap (λ x. Functions x k l) port �
 
 module _ (net : Netlist) (machine : Machine) (timing : Timing)
     (one_lack : (a k l b m n : ℕ) → LacksBits net machine timing a k l → LacksBits net machine timing b m n → (a ≡ b) × (k ≡ m) × (l ≡ n))
-    (bits_first : (nodes : NodeNet) (homes : Homes) → AreItems net timing nodes → ArePicked nodes machine homes → (a k l : ℕ) → LacksBits net machine timing a k l → ⊥)
+    (bits_first : (nodes : NodeNet) (homes : Homes) → IsMapped net timing nodes → ArePicked nodes machine homes → (a k l : ℕ) → LacksBits net machine timing a k l → ⊥)
     (bits_before_nodes : (a k l m n : ℕ) → LacksBits net machine timing a k l → LacksNodes net machine timing m n → ⊥)
     (one_many : (k l m n : ℕ) → LacksNodes net machine timing k l → LacksNodes net machine timing m n → (k ≡ m) × (l ≡ n))
-    (nodes_first : (nodes : NodeNet) (homes : Homes) → AreItems net timing nodes → ArePicked nodes machine homes → (k l : ℕ) → LacksNodes net machine timing k l → ⊥)
+    (nodes_first : (nodes : NodeNet) (homes : Homes) → IsMapped net timing nodes → ArePicked nodes machine homes → (k l : ℕ) → LacksNodes net machine timing k l → ⊥)
     (one_length : (k l m n : ℕ) → LacksSlots net machine timing k l → LacksSlots net machine timing m n → (k ≡ m) × (l ≡ n))
     (slots_first : (k l b m n : ℕ) → LacksSlots net machine timing k l → LacksFunctions net machine timing b m n → ⊥)
     (one_crowd : (a k l b m n : ℕ) → LacksFunctions net machine timing a k l → LacksFunctions net machine timing b m n → (a ≡ b) × (k ≡ m) × (l ≡ n)) where

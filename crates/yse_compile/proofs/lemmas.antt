@@ -2,8 +2,4 @@ pub mod ChoiceLemmas
 pub mod DesignExists
 pub mod KnownUses
 pub mod PlanExists
-pub mod SameHomes
-pub mod SameItems
-pub mod SamePlans
-pub mod SameTables
 pub mod SwitchExists

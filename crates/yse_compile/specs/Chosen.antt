@@ -3,7 +3,7 @@ use Rattle.std.specs.Prelude.{◌≡◌, ◌⊎◌, length, true, false}
 use Rattle.machine_text.specs.declared.machine.Machine.{Machine}
 use Rattle.net_defs.specs.declared.homes.HomeChoice.{HomeChoice, TheVariants.Plain, TheVariants.Better}
 use Rattle.net_defs.specs.declared.{netlist.Netlist.Netlist, timing.Timing.Timing}
-use Rattle.node_defs.specs.{declared.items.NodeNet.NodeNet, Order.AreItems}
+use Rattle.node_defs.specs.{declared.items.NodeNet.NodeNet, Order.IsMapped}
 use Rattle.plan_defs.specs.{declared.plan.Homes.Homes, declared.plan.Plan.Plan, Homes.AreHomes, Picks.ArePicked, Picks.AreHoused, Slots.IsFirstFitPlan}
 use Rattle.plan_defs.specs.{Switches.IsSwitch, Tables.Fits}
 use Rattle.home_pick.specs.{Better.IsBetter, Crossings.crossings}
@@ -16,7 +16,7 @@ use Rattle.yse_compile.specs.{declared.compiler.Compiled.Compiled, declared.choo
 -- and its image
 pub record IsDesign (net : Netlist) (machine : Machine) (timing : Timing) (compiled : Compiled) : Type 0 where
   pub acyclic : IsAcyclic net timing
-  pub items : AreItems net timing compiled.nodes
+  pub items : IsMapped net timing compiled.nodes
   pub logic : compiled.homes.logic ≡ machine.logic
   pub array : compiled.homes.array ≡ machine.array
   pub homes : AreHomes compiled.nodes compiled.homes
@@ -68,7 +68,7 @@ pub record IsChosen (net : Netlist) (machine : Machine) (timing : Timing) (choic
 pub record FitsEither (net : Netlist) (machine : Machine) (timing : Timing) : Type 0 where
   pub acyclic : IsAcyclic net timing
   pub nodes : NodeNet
-  pub items : AreItems net timing nodes
+  pub items : IsMapped net timing nodes
   pub plain : Homes
   pub picked : ArePicked nodes machine plain
   pub fit : HomesFit nodes machine plain ⊎ ((best : Homes) × IsBetter nodes machine plain best × HomesFit nodes machine best)

@@ -4,7 +4,7 @@ use Rattle.logic_four.specs.Values.{value_at}
 use Rattle.machine_text.specs.declared.machine.Machine.{Machine}
 use Rattle.net_defs.specs.{declared.netlist.Netlist.Netlist, declared.timing.Timing.Timing, declared.stimulus.Stimulus.Stimulus, Time.cycle_count, Steps.State}
 use Rattle.net_defs.specs.{Reference.IsSimulation, Trace.cells_of}
-use Rattle.node_defs.specs.Order.{AreItems}
+use Rattle.node_defs.specs.Order.{IsMapped}
 use Rattle.plan_defs.specs.{Picks.ArePicked, Slots.IsFirstFitPlan, Switches.IsSwitch, Tables.Fits}
 use Rattle.image_defs.specs.{declared.image.Image.Image, Frames.shown}
 use Rattle.image_build.specs.Built.{IsBuilt}
@@ -18,7 +18,7 @@ use Rattle.yse_compile.specs.declared.compiler.{Compiled.Compiled, CompNo.CompNo
 -- and its image
 pub record IsCompiled (net : Netlist) (machine : Machine) (timing : Timing) (compiled : Compiled) : Type 0 where
   pub acyclic : IsAcyclic net timing
-  pub items : AreItems net timing compiled.nodes
+  pub items : IsMapped net timing compiled.nodes
   pub picked : ArePicked compiled.nodes machine compiled.homes
   pub first_fit : IsFirstFitPlan compiled.nodes compiled.homes compiled.plan
   pub fits : Fits compiled.nodes compiled.homes machine compiled.plan

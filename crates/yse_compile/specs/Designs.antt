@@ -3,7 +3,7 @@ use Rattle.std.specs.Prelude.{◌≢◌, ℕ, List}
 use Rattle.machine_text.specs.declared.machine.Machine.{Machine}
 use Rattle.net_defs.specs.{declared.netlist.Netlist.Netlist, declared.timing.Timing.Timing, Loops.IsCircle, Loops.IsLoop}
 use Rattle.net_defs.specs.declared.timing.Mode.TheVariants as mode
-use Rattle.node_defs.specs.{declared.items.NodeNet.NodeNet, Order.AreItems}
+use Rattle.node_defs.specs.{declared.items.NodeNet.NodeNet, Order.IsMapped}
 use Rattle.plan_defs.specs.{declared.plan.Homes.Homes, declared.plan.Plan.Plan, Picks.ArePicked, Picks.FindsNoPort, Picks.HasTooManyNodes, Slots.IsFirstFitPlan}
 use Rattle.plan_defs.specs.Tables.{Fits}
 use Rattle.slot_plan.specs.Refusals.{IsLong, IsCrowded}
@@ -17,7 +17,7 @@ IsAcyclic net timing = (members : List ℕ) → IsCircle net timing members → 
 pub record DesignFits (net : Netlist) (machine : Machine) (timing : Timing) : Type 0 where
   pub acyclic : IsAcyclic net timing
   pub nodes : NodeNet
-  pub items : AreItems net timing nodes
+  pub items : IsMapped net timing nodes
   pub homes : Homes
   pub picked : ArePicked nodes machine homes
   pub plan : Plan
@@ -35,21 +35,21 @@ pub record HasLoop (net : Netlist) (timing : Timing) (members : List ℕ) : Type
 pub record LacksBits (net : Netlist) (machine : Machine) (timing : Timing) (block needed left : ℕ) : Type 0 where
   pub acyclic : IsAcyclic net timing
   pub nodes : NodeNet
-  pub items : AreItems net timing nodes
+  pub items : IsMapped net timing nodes
   pub none : FindsNoPort nodes machine block needed left
 
 -- each memory has a port, and the nodes are more than the logic ports hold together
 pub record LacksNodes (net : Netlist) (machine : Machine) (timing : Timing) (needed limit : ℕ) : Type 0 where
   pub acyclic : IsAcyclic net timing
   pub nodes : NodeNet
-  pub items : AreItems net timing nodes
+  pub items : IsMapped net timing nodes
   pub many : HasTooManyNodes nodes machine needed limit
 
 -- the items have homes, and the plan needs more slots than a turn has
 pub record LacksSlots (net : Netlist) (machine : Machine) (timing : Timing) (needed limit : ℕ) : Type 0 where
   pub acyclic : IsAcyclic net timing
   pub nodes : NodeNet
-  pub items : AreItems net timing nodes
+  pub items : IsMapped net timing nodes
   pub homes : Homes
   pub picked : ArePicked nodes machine homes
   pub long : IsLong nodes homes machine needed limit
@@ -58,7 +58,7 @@ pub record LacksSlots (net : Netlist) (machine : Machine) (timing : Timing) (nee
 pub record LacksFunctions (net : Netlist) (machine : Machine) (timing : Timing) (port needed limit : ℕ) : Type 0 where
   pub acyclic : IsAcyclic net timing
   pub nodes : NodeNet
-  pub items : AreItems net timing nodes
+  pub items : IsMapped net timing nodes
   pub homes : Homes
   pub picked : ArePicked nodes machine homes
   pub crowded : IsCrowded nodes homes machine port needed limit

@@ -1,20 +1,17 @@
 //! Laws of designs and machines: functions that do nothing, whose clauses hold of all of them.
 
-ghost use Rattle.std.specs.Prelude.{◌≡◌, ◌⊎◌, ℕ, All, List as Items, Result};
+ghost use Rattle.std.specs.Prelude.{◌≡◌, ◌⊎◌, ℕ, All};
 ghost use Rattle.event_defs.specs.Linked.{AreLinkedAlike};
 ghost use Rattle.image_build.specs.{Built.IsBuilt, Plans.IsPlanned};
-ghost use Rattle.image_check.specs.{declared.check.CheckNo.CheckNo, Check.Says};
-ghost use Rattle.image_defs.specs.{Claimed.HasClaims, declared.file.ImageFile.ImageFile};
 ghost use Rattle.image_defs.specs.declared.{file.Claims.Claims, image.Image.Image};
 ghost use Rattle.machine_text.specs.{declared.machine.Machine.Machine, Machines.IsValid as IsValidMachine};
-ghost use Rattle.home_pick.specs.{Better.IsBetter, declared.pick.HomeNo.HomeNo, Refusals.IsRight as LacksHomes, Crossings.crossings};
+ghost use Rattle.home_pick.specs.{Better.IsBetter, declared.pick.HomeNo.HomeNo, Refusals.IsRight as LacksHomes};
 ghost use Rattle.net_defs.specs.declared.{homes.HomeChoice.HomeChoice, netlist.Netlist.Netlist, timing.Timing.Timing};
 ghost use Rattle.net_defs.specs.Valid.{IsValid, IsValidTiming};
-ghost use Rattle.node_defs.specs.{declared.items.NodeNet.NodeNet, Order.AreItems, Order.IsMapped, WellFormed.IsWellFormed};
+ghost use Rattle.node_defs.specs.{declared.items.NodeNet.NodeNet, Order.IsMapped, WellFormed.IsWellFormed};
 ghost use Rattle.func_table.specs.Entries.{HasWords};
 ghost use Rattle.plan_defs.specs.{declared.plan.Homes.Homes, declared.plan.Plan.Plan, declared.switch.Switch.Switch, Homes.AreHomes};
-ghost use Rattle.plan_defs.specs.{Picks.ArePicked, Picks.FindsNoPort, Picks.HasTooManyNodes, Slots.IsFirstFitPlan, Switches.IsSwitch, Tables.Fits, Tables.UsesTables};
-ghost use Rattle.plan_text.specs.Reports.{IsReport};
+ghost use Rattle.plan_defs.specs.{Picks.ArePicked, Picks.FindsNoPort, Picks.HasTooManyNodes, Slots.IsFirstFitPlan, Switches.IsSwitch, Tables.UsesTables};
 ghost use Rattle.slot_plan.specs.{declared.fit.PlanNo.PlanNo, Refusals.IsCrowded, Refusals.IsLong, Refusals.IsRight as LacksPlan};
 ghost use Rattle.slot_plan.specs.declared.fit.PlanNo.TheVariants as no_plan;
 ghost use Rattle.yse_compile.specs.Chosen.{FitsBy, FitsEither, HomesFit, IsChosen, IsDesign, IsUsed};
@@ -24,75 +21,19 @@ ghost use Rattle.yse_compile.specs.{Claims.AreClaimsOf, declared.choose.Chosen.C
 ghost use Rattle.yse_compile.specs.code.Passes.{IsBestUnfit};
 ghost use Rattle.yse_compile.specs.declared.compiler.CompNo.TheVariants as no;
 
-use crate::inputs::same_inputs;
 use home_pick::law::{housed_or_refused, one_better, one_housing, some_better};
-use image_check::law::matches_or_not;
 use node_defs::law::one_list;
 use plan_defs::law::{items_are_well_formed, one_plan};
+use switch_set::law::one_switch;
 
-/// A law: that a design fits, each refusal that says that a machine is too small for it, its report, and what the check
-/// says of an image, are so of the items that the netlist is mapped to, where they are so of its items, whichever numbers
-/// their tables have. It does nothing.
-pub fn numbers_are_free()
-    ensures fits { (net : Netlist) (machine : Machine) (timing : Timing) (nodes : NodeNet) → IsValid net → IsMapped net timing nodes
-        → DesignFits net machine timing → (homes : Homes) × ArePicked nodes machine homes × HomesFit nodes machine homes }
-    ensures either { (net : Netlist) (machine : Machine) (timing : Timing) (nodes : NodeNet) → IsValid net → IsMapped net timing nodes
-        → FitsEither net machine timing → (plain : Homes) × ArePicked nodes machine plain
-        × (HomesFit nodes machine plain ⊎ ((best : Homes) × IsBetter nodes machine plain best × HomesFit nodes machine best)) }
-    ensures bits { (net : Netlist) (machine : Machine) (timing : Timing) (nodes : NodeNet) → IsValid net → IsMapped net timing nodes
-        → (block needed left : ℕ) → LacksBits net machine timing block needed left → FindsNoPort nodes machine block needed left }
-    ensures nodes { (net : Netlist) (machine : Machine) (timing : Timing) (nodes : NodeNet) → IsValid net → IsMapped net timing nodes
-        → (needed limit : ℕ) → LacksNodes net machine timing needed limit → HasTooManyNodes nodes machine needed limit }
-    ensures slots { (net : Netlist) (machine : Machine) (timing : Timing) (nodes : NodeNet) → IsValid net → IsMapped net timing nodes
-        → (needed limit : ℕ) → LacksSlots net machine timing needed limit
-        → (homes : Homes) × ArePicked nodes machine homes × IsLong nodes homes machine needed limit }
-    ensures functions { (net : Netlist) (machine : Machine) (timing : Timing) (nodes : NodeNet) → IsValid net → IsMapped net timing nodes
-        → (port needed limit : ℕ) → LacksFunctions net machine timing port needed limit
-        → (homes : Homes) × ArePicked nodes machine homes × IsCrowded nodes homes machine port needed limit }
-    ensures report { (choice : HomeChoice) (net : Netlist) (machine : Machine) (timing : Timing) (nodes others : NodeNet)
-        (plain : Homes) (chosen : Chosen) (plan : Plan) (report : Items ℕ) → IsValid net → IsMapped net timing nodes
-        → AreItems net timing others → ArePicked others machine plain → IsUsed choice others machine plain chosen
-        → IsFirstFitPlan others chosen.compiled.homes plan → Fits others chosen.compiled.homes machine plan
-        → IsReport net others chosen.compiled.homes plan report
-        → ArePicked nodes machine plain × IsUsed choice nodes machine plain chosen
-        × IsFirstFitPlan nodes chosen.compiled.homes plan × Fits nodes chosen.compiled.homes machine plan
-        × IsReport net nodes chosen.compiled.homes plan report }
-    ensures says { (net : Netlist) (timing : Timing) (nodes others : NodeNet) (file : ImageFile) → IsValid net
-        → IsMapped net timing nodes → AreItems net timing others → HasClaims file
-        → (answer : Result (Unit {0}) CheckNo) → Says file others timing answer → Says file nodes timing answer }
-{
-    one_list();
-    items_are_well_formed();
-    tables_counted();
-    matches_or_not();
-    same_inputs();
-}
-
-/// A law: a netlist has one list of homes on a machine, whichever numbers its tables have. It does
-/// nothing.
+/// A law: a netlist has one list of homes on a machine. It does nothing.
 pub fn one_homes()
     ensures { (net : Netlist) (machine : Machine) (timing : Timing) (nodes others : NodeNet)
-        → AreItems net timing nodes → AreItems net timing others
+        → IsMapped net timing nodes → IsMapped net timing others
         → (homes other_homes : Homes) → ArePicked nodes machine homes
         → ArePicked others machine other_homes → homes ≡ other_homes }
 {
     one_list();
-}
-
-/// A law: on a machine the first-fit plans of a netlist need one number of slots, whichever numbers
-/// its tables have. It does nothing.
-pub fn one_need()
-    ensures { (net : Netlist) (machine : Machine) (timing : Timing) (nodes others : NodeNet)
-        → IsValid net → AreItems net timing nodes → AreItems net timing others
-        → (homes other_homes : Homes) → ArePicked nodes machine homes
-        → ArePicked others machine other_homes
-        → (plan other : Plan) → IsFirstFitPlan nodes homes plan
-        → IsFirstFitPlan others other_homes other → plan.needed ≡ other.needed }
-{
-    one_list();
-    one_homes();
-    items_are_well_formed();
-    one_plan();
 }
 
 /// A law: on a machine there are homes that are picked for items, or a memory is the first that
@@ -143,7 +84,7 @@ pub fn planned_or_refused()
 /// machine is too small. It does nothing.
 pub fn fits_or_refused()
     ensures { (net : Netlist) (machine : Machine) (timing : Timing) (nodes : NodeNet) → IsValid net
-        → IsValidMachine machine → IsAcyclic net timing → AreItems net timing nodes
+        → IsValidMachine machine → IsAcyclic net timing → IsMapped net timing nodes
         → DesignFits net machine timing
         ⊎ ((refusal : CompNo) × IsRight net machine timing refusal × IsOverfull refusal) }
 {
@@ -155,7 +96,7 @@ pub fn fits_or_refused()
 /// A law: where a memory finds no port, the items have no homes. It does nothing.
 pub fn bits_first()
     ensures { (net : Netlist) (machine : Machine) (timing : Timing) (nodes : NodeNet)
-        → (homes : Homes) → AreItems net timing nodes → ArePicked nodes machine homes
+        → (homes : Homes) → IsMapped net timing nodes → ArePicked nodes machine homes
         → (block needed left : ℕ) → LacksBits net machine timing block needed left → ⊥ }
 {
     one_list();
@@ -175,7 +116,7 @@ pub fn bits_before_nodes()
 /// A law: where the nodes are too many, the items have no homes. It does nothing.
 pub fn nodes_first()
     ensures { (net : Netlist) (machine : Machine) (timing : Timing) (nodes : NodeNet)
-        → (homes : Homes) → AreItems net timing nodes → ArePicked nodes machine homes
+        → (homes : Homes) → IsMapped net timing nodes → ArePicked nodes machine homes
         → (needed limit : ℕ) → LacksNodes net machine timing needed limit → ⊥ }
 {
     one_list();
@@ -187,7 +128,10 @@ pub fn slots_first()
         → (needed limit port tables most : ℕ) → LacksSlots net machine timing needed limit
         → LacksFunctions net machine timing port tables most → ⊥ }
 {
-    one_need();
+    one_list();
+    one_homes();
+    items_are_well_formed();
+    one_plan();
 }
 
 /// A law: where a design fits, no memory is without a port. It does nothing.
@@ -212,7 +156,10 @@ pub fn fits_slots()
         → DesignFits net machine timing
         → (needed limit : ℕ) → LacksSlots net machine timing needed limit → ⊥ }
 {
-    one_need();
+    one_list();
+    one_homes();
+    items_are_well_formed();
+    planned_or_refused();
 }
 
 /// A law: where a design fits, no port's nodes use too many tables. It does nothing.
@@ -222,6 +169,7 @@ pub fn fits_functions()
 {
     one_list();
     one_homes();
+    planned_or_refused();
 }
 
 /// A law: one memory is the first that finds no port, its bits are one number, and so are those
@@ -257,7 +205,10 @@ pub fn one_length()
         → LacksSlots net machine timing other_needed other_limit
         → (needed ≡ other_needed) × (limit ≡ other_limit) }
 {
-    one_need();
+    one_list();
+    one_homes();
+    items_are_well_formed();
+    one_plan();
 }
 
 /// A law: one port is the first whose nodes use too many tables, and they are one number. It does
@@ -298,26 +249,6 @@ pub fn compiled_is_design()
     items_are_well_formed();
 }
 
-/// A law: from the same homes the items of a netlist have the same better homes on a machine, as many
-/// crossings at any homes, and they fit there or don't, whichever numbers their tables have. It does
-/// nothing.
-pub fn one_better_homes()
-    ensures better { (net : Netlist) (machine : Machine) (timing : Timing) (nodes others : NodeNet)
-        → AreItems net timing nodes → AreItems net timing others → (start one other : Homes)
-        → IsBetter nodes machine start one → IsBetter others machine start other → one ≡ other }
-    ensures crossings { (net : Netlist) (timing : Timing) (nodes others : NodeNet)
-        → AreItems net timing nodes → AreItems net timing others
-        → (homes : Homes) → crossings nodes homes ≡ crossings others homes }
-    ensures fit { (net : Netlist) (machine : Machine) (timing : Timing) (nodes others : NodeNet) → IsValid net
-        → AreItems net timing nodes → AreItems net timing others
-        → (homes : Homes) → HomesFit nodes machine homes → HomesFit others machine homes }
-{
-    one_list();
-    one_better();
-    items_are_well_formed();
-    tables_counted();
-}
-
 /// A law: where a design fits at plain homes or at better ones, its items have homes, and they fit at the
 /// plain homes that are picked for them or at better ones from there. It does nothing.
 pub fn either_fits()
@@ -328,14 +259,15 @@ pub fn either_fits()
     ensures nodes { (net : Netlist) (machine : Machine) (timing : Timing) → FitsEither net machine timing
         → (needed limit : ℕ) → LacksNodes net machine timing needed limit → ⊥ }
     ensures fit { (net : Netlist) (machine : Machine) (timing : Timing) (nodes : NodeNet) (plain best : Homes)
-        → IsValid net → AreItems net timing nodes → ArePicked nodes machine plain
+        → IsValid net → IsMapped net timing nodes → ArePicked nodes machine plain
         → IsBetter nodes machine plain best → FitsEither net machine timing
         → HomesFit nodes machine plain ⊎ HomesFit nodes machine best }
 {
+    one_list();
+    one_homes();
+    one_better();
     bits_first();
     nodes_first();
-    one_homes();
-    one_better_homes();
 }
 
 /// A law: a refusal of homes or of a plan is right of the whole design, and of one that fits it is for want of
@@ -344,10 +276,10 @@ pub(crate) fn refusals_are_right()
     ensures either { (choice : HomeChoice) (net : Netlist) (machine : Machine) (timing : Timing) → FitsBy choice net machine timing
         → FitsEither net machine timing }
     ensures homes { (net : Netlist) (machine : Machine) (timing : Timing) (nodes : NodeNet) → IsAcyclic net timing
-        → AreItems net timing nodes → (refusal : HomeNo) → LacksHomes nodes machine refusal
+        → IsMapped net timing nodes → (refusal : HomeNo) → LacksHomes nodes machine refusal
         → IsRight net machine timing (of_homes refusal) × (FitsEither net machine timing → of_homes refusal ≡ no.Memory) }
     ensures plan { (choice : HomeChoice) (net : Netlist) (machine : Machine) (timing : Timing) (nodes : NodeNet) (plain : Homes)
-        → IsValid net → IsAcyclic net timing → AreItems net timing nodes → ArePicked nodes machine plain
+        → IsValid net → IsAcyclic net timing → IsMapped net timing nodes → ArePicked nodes machine plain
         → (refusal : PlanNo) → LacksPlan nodes plain machine refusal
         → (refusal ≡ no_plan.Memory) ⊎ IsBestUnfit choice nodes machine plain
         → IsRight net machine timing (of_plan refusal) × (FitsBy choice net machine timing → of_plan refusal ≡ no.Memory) }
@@ -363,7 +295,7 @@ pub(crate) fn refusals_are_right()
 /// right which says that the machine is too small. It does nothing.
 pub fn fits_by_or_refused()
     ensures { (choice : HomeChoice) (net : Netlist) (machine : Machine) (timing : Timing) (nodes : NodeNet)
-        → IsValid net → IsValidMachine machine → IsAcyclic net timing → AreItems net timing nodes
+        → IsValid net → IsValidMachine machine → IsAcyclic net timing → IsMapped net timing nodes
         → FitsBy choice net machine timing
         ⊎ ((refusal : CompNo) × IsRight net machine timing refusal × IsOverfull refusal × (FitsBy choice net machine timing → ⊥)) }
 {
@@ -393,7 +325,7 @@ pub fn one_choice()
 pub fn one_use()
     ensures { (choice : HomeChoice) (net : Netlist) (machine : Machine) (timing : Timing) (one other : Chosen)
         (plain plain_too : Homes) → IsValid net
-        → AreItems net timing one.compiled.nodes → AreItems net timing other.compiled.nodes
+        → IsMapped net timing one.compiled.nodes → IsMapped net timing other.compiled.nodes
         → ArePicked one.compiled.nodes machine plain → ArePicked other.compiled.nodes machine plain_too
         → IsUsed choice one.compiled.nodes machine plain one
         → IsUsed choice other.compiled.nodes machine plain_too other
@@ -402,21 +334,24 @@ pub fn one_use()
         → (one.compiled.homes ≡ other.compiled.homes) × (one.before ≡ other.before)
         × (one.after ≡ other.after) × (one.better ≡ other.better) }
 {
-    one_homes();
-    one_better_homes();
-}
-
-/// A law: the ports of the compiled images of a netlist on a machine send and receive alike, whichever
-/// numbers their tables have. It does nothing.
-pub fn one_linking()
-    ensures { (net : Netlist) (machine : Machine) (timing : Timing) (one other : Compiled)
-        → IsValid net → IsCompiled net machine timing one → IsCompiled net machine timing other
-        → AreLinkedAlike one.image other.image }
-{
     one_list();
     one_homes();
+    one_better();
+}
+
+/// A law: by a choice of homes a netlist has one design on a machine: one list of items, homes, plan and switch. It
+/// does nothing.
+pub(crate) fn one_design()
+    ensures { (choice : HomeChoice) (net : Netlist) (machine : Machine) (timing : Timing) (one other : Chosen)
+        → IsValid net → IsChosen net machine timing choice one → IsChosen net machine timing choice other
+        → (one.compiled.nodes ≡ other.compiled.nodes) × (one.compiled.homes ≡ other.compiled.homes)
+        × (one.compiled.plan ≡ other.compiled.plan) × (one.compiled.switch ≡ other.compiled.switch) }
+{
+    one_list();
+    one_choice();
     items_are_well_formed();
     one_plan();
+    one_switch();
 }
 
 /// A law: the ports of the images that a netlist is compiled to by one choice of homes send and receive
@@ -426,10 +361,7 @@ pub fn one_linking_chosen()
         → IsValid net → IsChosen net machine timing choice one → IsChosen net machine timing choice other
         → AreLinkedAlike one.compiled.image other.compiled.image }
 {
-    one_list();
-    one_choice();
-    items_are_well_formed();
-    one_plan();
+    one_design();
 }
 
 /// A law: for items at their homes in their first-fit plan, with the switch's settings for them, there is an image
@@ -450,19 +382,15 @@ pub fn one_image()
         → AreClaimsOf one.compiled claims → AreClaimsOf other.compiled claims_too
         → (one.compiled.image ≡ other.compiled.image) × (claims ≡ claims_too) }
 {
-    one_list();
-    one_choice();
+    one_design();
     one_linking_chosen();
-    items_are_well_formed();
-    one_plan();
-    same_inputs();
 }
 
 /// A law: where a design fits a machine by a choice of homes, there is a design that has them, and the claims of the
 /// places of its image. It does nothing.
 pub fn designs_exist()
     ensures { (choice : HomeChoice) (net : Netlist) (machine : Machine) (timing : Timing) (nodes : NodeNet)
-        → IsValid net → IsValidMachine machine → IsValidTiming timing → AreItems net timing nodes
+        → IsValid net → IsValidMachine machine → IsValidTiming timing → IsMapped net timing nodes
         → All HasWords nodes.tables → FitsBy choice net machine timing
         → (chosen : Chosen) × (claims : Claims) × IsChosen net machine timing choice chosen × AreClaimsOf chosen.compiled claims }
 {

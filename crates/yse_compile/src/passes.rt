@@ -5,7 +5,7 @@ ghost use Rattle.home_pick.specs.Refusals.{IsRight as LacksHomes};
 ghost use Rattle.image_build.specs.Built.{IsBuilt};
 ghost use Rattle.machine_text.specs.{declared.machine.Machine.Machine, Machines.IsValid as IsValidMachine};
 ghost use Rattle.net_defs.specs.Valid.{IsValid, IsValidTiming};
-ghost use Rattle.node_defs.specs.{Order.AreItems, WellFormed.IsWellFormed};
+ghost use Rattle.node_defs.specs.{Order.IsMapped, WellFormed.IsWellFormed};
 ghost use Rattle.plan_defs.specs.{Switches.IsSwitch, Tables.Fits};
 ghost use Rattle.slot_plan.specs.Refusals.{IsRight as LacksPlan};
 ghost use Rattle.yse_compile.specs.{Chosen.FitsEither, Compiled.IsRight, Designs.IsAcyclic};
@@ -52,7 +52,7 @@ pub(crate) struct Routed {
 pub(crate) fn items_of(alloc: Global, net: &Netlist, timing: &Timing) -> Result<NodeNet, CompNo>
     requires net { IsValid net.now }
     requires timing { IsValidTiming timing.now }
-    ensures items { IfOk result (AreItems net.now timing.now) }
+    ensures items { IfOk result (IsMapped net.now timing.now) }
     ensures formed { IfOk result IsWellFormed }
     ensures acyclic { OnOk result (IsAcyclic net.now timing.now) }
     ensures refused { IfErr result (λ no. (machine : Machine) → IsRight net.now machine timing.now no) }

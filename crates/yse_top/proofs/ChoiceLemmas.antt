@@ -4,7 +4,7 @@ use Rattle.machine_text.specs.{declared.machine.Machine.Machine, Machines.IsVali
 use Rattle.net_defs.specs.declared.homes.HomeChoice.{HomeChoice, TheVariants.Plain, TheVariants.Better}
 use Rattle.net_defs.specs.declared.{netlist.Netlist.Netlist, timing.Timing.Timing}
 use Rattle.net_defs.specs.declared.timing.Init.TheVariants as init
-use Rattle.node_defs.specs.{declared.items.NodeNet.NodeNet, Order.AreItems, WellFormed.IsWellFormed}
+use Rattle.node_defs.specs.{declared.items.NodeNet.NodeNet, Order.IsMapped, WellFormed.IsWellFormed}
 use Rattle.plan_defs.specs.{declared.plan.Homes.Homes, declared.plan.Plan.Plan, Homes.AreHomes, Picks.ArePicked, Slots.IsFirstFitPlan, Tables.Fits}
 use Rattle.home_pick.specs.{Better.IsBetter, Crossings.crossings}
 use Rattle.home_pick.proofs.HomeLemmas.{homes_are}
@@ -15,7 +15,7 @@ use Rattle.yse_compile.proofs.lemmas.ChoiceLemmas.{better_are}
 -- homes that the choice gives, with a plan that fits
 pub record HasHomes (choice : HomeChoice) (net : Netlist) (machine : Machine) (timing : Timing) : Type 0 where
   pub chosen : Chosen
-  pub items : AreItems net timing chosen.compiled.nodes
+  pub items : IsMapped net timing chosen.compiled.nodes
   pub plain : Homes
   pub picked : ArePicked chosen.compiled.nodes machine plain
   pub used : IsUsed choice chosen.compiled.nodes machine plain chosen
@@ -39,7 +39,7 @@ sketch nodes homes plan before after better = record {
 }
 
 module _ (net : Netlist) (machine : Machine) (timing : Timing) (valid : IsValidMachine machine)
-    (formed : (nodes : NodeNet) → AreItems net timing nodes → IsWellFormed nodes)
+    (formed : (nodes : NodeNet) → IsMapped net timing nodes → IsWellFormed nodes)
     (best : (nodes : NodeNet) (start : Homes) → (better : Homes) × IsBetter nodes machine start better)
     (one_best : (nodes : NodeNet) (start one other : Homes) → IsBetter nodes machine start one → IsBetter nodes machine start other → one ≡ other)
     (decided : (nodes : NodeNet) (homes : Homes) → IsWellFormed nodes → AreHomes nodes homes → HomesFit nodes machine homes ⊎ (HomesFit nodes machine homes → ⊥)) where

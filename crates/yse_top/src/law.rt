@@ -31,7 +31,6 @@ use stim_text::law::reads_or_faults as stimuli_or_faults;
 use stim_text::order_law::{
     reads_as_valid as orders_are_valid, reads_or_faults as orders_or_faults,
 };
-use yse_compile::inputs::same_inputs;
 use yse_compile::law::{
     designs_exist, fits_by_or_refused, one_image, one_linking_chosen, one_refusal, one_use,
     planned_or_refused,
@@ -57,7 +56,6 @@ pub fn calls_are_proper()
     lanes_or_faults();
     stuck_lists_or_faults();
     reads_as_faults();
-    same_inputs();
     machines_are_valid();
     orders_are_valid();
     texts_read_as_valid();
@@ -96,8 +94,6 @@ pub fn compiled_images_are_taken()
     matches_or_not();
     designs_are_in_range();
     one_list();
-    items_are_well_formed();
-    same_inputs();
 }
 
 /// A law: what is compiled is run. After a call of `compile` and one of `run` that ended with status 0, a call of `exec`

@@ -31,6 +31,32 @@ send 0 0\n\
 take 1 0\n\
 end\n";
 
+/// Two gates of one port, and an image of theirs whose first gate uses the second table.
+const PAIR: &str = "INPUT(a)\nINPUT(b)\nOUTPUT(y)\nOUTPUT(z)\ny = AND(a, b)\nz = OR(a, b)\n";
+
+const TURNED: &str = "\
+yse-image 1\n\
+slots 4 units 1 init x columns 2 ports 2\n\
+port logic\n\
+table a6a655a4a6a655a4 a6a655a4a6a655a4 a6a655a4a6a655a4 a6a655a4a6a655a4 a6a655a4a6a655a4 a6a655a4a6a655a4 a6a655a4a6a655a4 a6a655a4a6a655a4\n\
+table a8a8a400a8a8a400 a8a8a400a8a8a400 a8a8a400a8a8a400 a8a8a400a8a8a400 a8a8a400a8a8a400 a8a8a400a8a8a400 a8a8a400a8a8a400 a8a8a400a8a8a400\n\
+eval 2 1 g0 g1 c0 c0 2\n\
+eval 3 0 g0 g1 c0 c0 3\n\
+send 2 1\n\
+send 3 1\n\
+take 0 1\n\
+take 1 1\n\
+port host\n\
+in 0 0 0\n\
+in 1 1 1\n\
+print g2\n\
+print g3\n\
+send 0 0\n\
+send 1 0\n\
+take 2 0\n\
+take 3 0\n\
+end\n";
+
 /// Cases over the image of the buffer.
 const EXECUTED: Case = Case {
     calls: "exec",
@@ -54,6 +80,16 @@ const CASES: &[Case] = &[
         calls: "exec net.bench net.more other|exec net.bench other net.stim",
         words: "",
         rows: "=> read fault: other\n",
+        ..EXECUTED
+    },
+    // An image from elsewhere is taken, whichever numbers its tables have, and prints what `refer` does.
+    Case {
+        calls: "exec net.bench net.more net.stim|refer net.bench net.stim",
+        words: "",
+        netlist: PAIR,
+        stimulus: "00\n01\n10\n11\nx1\n",
+        more: TURNED,
+        rows: "=> cycle y z\n1 00\n2 01\n3 01\n4 11\n5 x1\n",
         ..EXECUTED
     },
     // An image is one piece: nothing is written where the first write fails.

@@ -3,7 +3,7 @@ use Rattle.std.specs.Prelude.{◌≡◌, ℕ, Bool, true, false, List, [], ◌++
 use Rattle.machine_text.specs.declared.machine.Machine.{Machine}
 use Rattle.net_defs.specs.declared.homes.HomeChoice.{HomeChoice, TheVariants.Plain, TheVariants.Better}
 use Rattle.net_defs.specs.declared.{netlist.Netlist.Netlist, timing.Timing.Timing}
-use Rattle.node_defs.specs.Order.{AreItems}
+use Rattle.node_defs.specs.Order.{IsMapped}
 use Rattle.plan_defs.specs.{declared.plan.Homes.Homes, Picks.ArePicked, Slots.IsFirstFitPlan, Tables.Fits}
 use Rattle.plan_text.specs.Reports.{IsReport}
 use Rattle.yse_compile.specs.{declared.choose.Chosen.Chosen, Chosen.IsUsed}
@@ -26,7 +26,7 @@ told_of_homes Better chosen = crossings_line chosen.before chosen.after chosen.b
 -- are used, and then what is told of the homes
 pub record IsReportOf (choice : HomeChoice) (net : Netlist) (machine : Machine) (timing : Timing) (output : List ℕ) : Type 0 where
   pub chosen : Chosen
-  pub items : AreItems net timing chosen.compiled.nodes
+  pub items : IsMapped net timing chosen.compiled.nodes
   pub plain : Homes
   pub picked : ArePicked chosen.compiled.nodes machine plain
   pub used : IsUsed choice chosen.compiled.nodes machine plain chosen

@@ -3,7 +3,7 @@ use Rattle.std.proofs.Common.{◌≡◌, ◌∙◌, ◌⊎◌, inl, inr, ℕ, tr
 use Rattle.machine_text.specs.{declared.machine.Machine.Machine, Machines.IsValid as IsValidMachine}
 use Rattle.net_defs.specs.declared.homes.HomeChoice.{HomeChoice, TheVariants.Plain, TheVariants.Better}
 use Rattle.net_defs.specs.declared.{netlist.Netlist.Netlist, timing.Timing.Timing}
-use Rattle.node_defs.specs.{declared.items.NodeNet.NodeNet, Order.AreItems, WellFormed.IsWellFormed}
+use Rattle.node_defs.specs.{declared.items.NodeNet.NodeNet, Order.IsMapped, WellFormed.IsWellFormed}
 use Rattle.plan_defs.specs.{declared.plan.Homes.Homes, Homes.AreHomes, Picks.ArePicked, Slots.IsFirstFitPlan, Tables.Fits}
 use Rattle.home_pick.specs.{Better.bound_of, Better.IsBetter, Crossings.crossings, declared.pick.HomeNo.HomeNo}
 use Rattle.home_pick.specs.declared.pick.HomeNo.TheVariants.{Bits as NoBits, Memory as NoRoom, Nodes as ManyNodes}
@@ -12,7 +12,7 @@ use Rattle.home_pick.proofs.{PassLemmas.passes_way, PassLemmas.start_way, HomeLe
 use Rattle.slot_plan.specs.declared.fit.PlanNo.{PlanNo, TheVariants.Slots as ManySlots, TheVariants.Functions as ManyFunctions, TheVariants.Memory as NoMemory}
 use Rattle.slot_plan.specs.Refusals.{IsCrowded, IsLong, IsRight as IsUnplanned}
 use Rattle.yse_compile.specs.declared.compiler.CompNo.TheVariants.{Loop, Bits, Slots, Functions, Memory, Nodes}
-use Rattle.yse_compile.specs.Chosen.{FitsBy, FitsEither, HomesFit, IsDesign, IsUsed, UsesPlain, UsesBetter}
+use Rattle.yse_compile.specs.Chosen.{FitsBy, FitsEither, HomesFit, IsDesign, IsUsed}
 use Rattle.yse_compile.specs.Compiled.{IsCompiled, IsOverfull, IsRight, of_homes, of_plan}
 use Rattle.yse_compile.specs.Designs.{IsAcyclic, DesignFits, LacksBits, LacksNodes, LacksSlots, LacksFunctions}
 use Rattle.yse_compile.specs.declared.{choose.Chosen.Chosen, compiler.Compiled.Compiled, compiler.CompNo.CompNo}
@@ -62,15 +62,15 @@ module _ (net : Netlist) (machine : Machine) (timing : Timing) where
   -- ---- either
 
   module _ (machine_valid : IsValidMachine machine)
-      (formed : (nodes : NodeNet) → AreItems net timing nodes → IsWellFormed nodes)
+      (formed : (nodes : NodeNet) → IsMapped net timing nodes → IsWellFormed nodes)
       (planned : (nodes : NodeNet) (homes : Homes) → IsWellFormed nodes → AreHomes nodes homes → HomesFit nodes machine homes ⊎ LacksPlan nodes homes machine)
       (never : (nodes : NodeNet) (homes : Homes) → IsWellFormed nodes → HomesFit nodes machine homes → LacksPlan nodes homes machine → ⊥)
       (best : (nodes : NodeNet) (start : Homes) → (better : Homes) × IsBetter nodes machine start better)
       (bits : FitsEither net machine timing → (block needed left : ℕ) → LacksBits net machine timing block needed left → ⊥)
       (many : FitsEither net machine timing → (needed limit : ℕ) → LacksNodes net machine timing needed limit → ⊥)
-      (fit : (nodes : NodeNet) (plain better : Homes) → AreItems net timing nodes → ArePicked nodes machine plain → IsBetter nodes machine plain better → FitsEither net machine timing → HomesFit nodes machine plain ⊎ HomesFit nodes machine better) where
+      (fit : (nodes : NodeNet) (plain better : Homes) → IsMapped net timing nodes → ArePicked nodes machine plain → IsBetter nodes machine plain better → FitsEither net machine timing → HomesFit nodes machine plain ⊎ HomesFit nodes machine better) where
     -- where it doesn't fit at the plain homes it fits at better ones or at neither
-    at_best : (nodes : NodeNet) (homes : Homes) → IsAcyclic net timing → AreItems net timing nodes → ArePicked nodes machine homes → LacksPlan nodes homes machine
+    at_best : (nodes : NodeNet) (homes : Homes) → IsAcyclic net timing → IsMapped net timing nodes → ArePicked nodes machine homes → LacksPlan nodes homes machine
         → FitsEither net machine timing ⊎ (FitsEither net machine timing → ⊥)
     at_best nodes homes acyclic items picked lacks =
         let well = formed nodes items in
@@ -117,7 +117,7 @@ compiled_design net machine timing compiled homes is = record {
 }
 
 -- homes that a choice uses fit by it
-pub used_fits : (net : Netlist) (machine : Machine) (timing : Timing) (nodes : NodeNet) (plain : Homes) (choice : HomeChoice) (chosen : Chosen) → IsAcyclic net timing → AreItems net timing nodes → ArePicked nodes machine plain
+pub used_fits : (net : Netlist) (machine : Machine) (timing : Timing) (nodes : NodeNet) (plain : Homes) (choice : HomeChoice) (chosen : Chosen) → IsAcyclic net timing → IsMapped net timing nodes → ArePicked nodes machine plain
     → HomesFit nodes machine chosen.compiled.homes → IsUsed choice nodes machine plain chosen → FitsBy choice net machine timing
 used_fits net machine timing nodes plain Plain chosen acyclic items picked fit used = record {
   acyclic = acyclic;
@@ -143,7 +143,7 @@ used_fits net machine timing nodes plain Better chosen acyclic items picked fit 
 
 -- ---- refusals of homes and of plans
 
-module _ (net : Netlist) (machine : Machine) (timing : Timing) (nodes : NodeNet) (acyclic : IsAcyclic net timing) (items : AreItems net timing nodes) where
+module _ (net : Netlist) (machine : Machine) (timing : Timing) (nodes : NodeNet) (acyclic : IsAcyclic net timing) (items : IsMapped net timing nodes) where
   pub homes_right : (refusal : HomeNo) → LacksHomes nodes machine refusal → IsRight net machine timing (of_homes refusal)
   homes_right (NoBits block needed left) lacks = record { acyclic = acyclic; nodes = nodes; items = items; none = lacks }
   homes_right NoRoom lacks = tt
@@ -173,31 +173,28 @@ module _ (net : Netlist) (machine : Machine) (timing : Timing) (nodes : NodeNet)
 abbrev pub AreAlike : Chosen → Chosen → Type 0
 AreAlike one other = (one.compiled.homes ≡ other.compiled.homes) × (one.before ≡ other.before) × (one.after ≡ other.after) × (one.better ≡ other.better)
 
-module _ (nodes others : NodeNet) (machine : Machine) (plain : Homes) (one other : Chosen) (crossed : (homes : Homes) → crossings nodes homes ≡ crossings others homes) where
-  pub plain_alike : UsesPlain nodes plain one → UsesPlain others plain other → AreAlike one other
-  plain_alike first second = (
-    first.homes ∙ sym second.homes,
-    first.before ∙ (crossed plain ∙ sym second.before),
-    first.after ∙ (crossed plain ∙ sym second.after),
-    first.plainly ∙ sym second.plainly,
-  )
+-- homes that one choice uses for items from the same homes, and that fit, are alike
+pub used_alike : (choice : HomeChoice) (nodes : NodeNet) (machine : Machine) (plain : Homes) (one other : Chosen)
+    → ((best better : Homes) → IsBetter nodes machine plain best → IsBetter nodes machine plain better → best ≡ better)
+    → IsUsed choice nodes machine plain one → IsUsed choice nodes machine plain other
+    → HomesFit nodes machine one.compiled.homes → HomesFit nodes machine other.compiled.homes → AreAlike one other
+used_alike Plain nodes machine plain one other one_better first second fits fits_too = (
+  first.homes ∙ sym second.homes,
+  first.before ∙ sym second.before,
+  first.after ∙ sym second.after,
+  first.plainly ∙ sym second.plainly,
+)
+used_alike Better nodes machine plain one other one_better first second fits fits_too =
+    let homes = by first.used second.used in
+    (homes.0, first.before ∙ sym second.before, first.after ∙ (ap (crossings nodes) best ∙ sym second.after), homes.1)
+  where
+    best : first.best ≡ second.best
+    best = one_better first.best second.best first.is_better second.is_better
 
-  module _ (there : (homes : Homes) → HomesFit nodes machine homes → HomesFit others machine homes)
-      (back : (homes : Homes) → HomesFit others machine homes → HomesFit nodes machine homes)
-      (fits : HomesFit nodes machine one.compiled.homes) (fits_too : HomesFit others machine other.compiled.homes)
-      (first : UsesBetter nodes machine plain one) (second : UsesBetter others machine plain other) (best : first.best ≡ second.best) where
-    homes_alike : ((one.better ≡ true) × (one.compiled.homes ≡ first.best)) ⊎ ((one.better ≡ false) × (one.compiled.homes ≡ plain) × (HomesFit nodes machine first.best → ⊥))
-        → ((other.better ≡ true) × (other.compiled.homes ≡ second.best)) ⊎ ((other.better ≡ false) × (other.compiled.homes ≡ plain) × (HomesFit others machine second.best → ⊥))
+    by : ((one.better ≡ true) × (one.compiled.homes ≡ first.best)) ⊎ ((one.better ≡ false) × (one.compiled.homes ≡ plain) × (HomesFit nodes machine first.best → ⊥))
+        → ((other.better ≡ true) × (other.compiled.homes ≡ second.best)) ⊎ ((other.better ≡ false) × (other.compiled.homes ≡ plain) × (HomesFit nodes machine second.best → ⊥))
         → (one.compiled.homes ≡ other.compiled.homes) × (one.better ≡ other.better)
-    homes_alike (inl here) (inl too) = (here.1 ∙ (best ∙ sym too.1), here.0 ∙ sym too.0)
-    homes_alike (inl here) (inr too) = absurd (too.2 (subst (HomesFit others machine) best (there first.best (subst (HomesFit nodes machine) here.1 fits))))
-    homes_alike (inr here) (inl too) = absurd (here.2 (subst (HomesFit nodes machine) (sym best) (back second.best (subst (HomesFit others machine) too.1 fits_too))))
-    homes_alike (inr here) (inr too) = (here.1 ∙ sym too.1, here.0 ∙ sym too.0)
-
-    pub better_alike : AreAlike one other
-    better_alike = (
-      (homes_alike first.used second.used).0,
-      first.before ∙ (crossed plain ∙ sym second.before),
-      first.after ∙ (crossed first.best ∙ (ap (crossings others) best ∙ sym second.after)),
-      (homes_alike first.used second.used).1,
-    )
+    by (inl here) (inl too) = (here.1 ∙ (best ∙ sym too.1), here.0 ∙ sym too.0)
+    by (inl here) (inr too) = absurd (too.2 (subst (HomesFit nodes machine) (here.1 ∙ best) fits))
+    by (inr here) (inl too) = absurd (here.2 (subst (HomesFit nodes machine) (too.1 ∙ sym best) fits_too))
+    by (inr here) (inr too) = (here.1 ∙ sym too.1, here.0 ∙ sym too.0)

@@ -4,7 +4,7 @@ use Rattle.limits.specs.declared.TheConstants.{MAX_SLOTS}
 use Rattle.machine_text.specs.{declared.machine.Machine.Machine, Machines.IsValid as IsValidMachine}
 use Rattle.net_defs.specs.declared.homes.HomeChoice.{HomeChoice, TheVariants.Plain, TheVariants.Better}
 use Rattle.net_defs.specs.declared.{netlist.Netlist.Netlist, timing.Timing.Timing}
-use Rattle.node_defs.specs.{declared.items.NodeNet.NodeNet, Order.AreItems, Same.AreSameItems, WellFormed.IsWellFormed}
+use Rattle.node_defs.specs.{declared.items.NodeNet.NodeNet, Order.IsMapped, WellFormed.IsWellFormed}
 use Rattle.plan_defs.specs.{declared.plan.Homes.Homes, declared.plan.Plan.Plan, declared.switch.Switch.Switch, Homes.AreHomes, Picks.ArePicked, Picks.AreHoused}
 use Rattle.plan_defs.specs.Switches.{IsSwitch}
 use Rattle.home_pick.specs.{Better.IsBetter, Better.KeepsOthers, Better.bound_of, Crossings.crossings}
@@ -13,8 +13,7 @@ use Rattle.image_defs.specs.declared.{image.Image.Image, file.Claims.Claims}
 use Rattle.image_build.specs.{Built.IsBuilt, Plans.IsPlanned}
 use Rattle.yse_compile.specs.Chosen.{FitsBy, FitsEither, HomesFit, IsChosen, IsDesign, IsUsed}
 use Rattle.yse_compile.specs.{declared.choose.Chosen.Chosen, declared.compiler.Compiled.Compiled, Claims.AreClaimsOf, Designs.IsAcyclic, Designs.DesignFits}
-use Rattle.yse_compile.proofs.{lemmas.ChoiceLemmas.better_are, FitLemmas.fit_kept, lemmas.PlanExists.tables_counted, SameBetter.better_kept}
-use Rattle.yse_compile.proofs.lemmas.SameHomes.{picked_kept}
+use Rattle.yse_compile.proofs.lemmas.ChoiceLemmas.{better_are}
 
 -- better homes keep what is no node
 better_keeps : (nodes : NodeNet) (machine : Machine) (start better : Homes) → IsWellFormed nodes → AreHomes nodes start → IsBetter nodes machine start better → KeepsOthers nodes start better
@@ -35,7 +34,7 @@ pub record HasDesign (choice : HomeChoice) (net : Netlist) (machine : Machine) (
   pub is : IsChosen net machine timing choice chosen
   pub are : AreClaimsOf chosen.compiled claims
 
-module _ (net : Netlist) (machine : Machine) (timing : Timing) (nodes : NodeNet) (valid : IsValidMachine machine) (items : AreItems net timing nodes) (formed : IsWellFormed nodes) (makes : MakesImages nodes timing) where
+module _ (net : Netlist) (machine : Machine) (timing : Timing) (nodes : NodeNet) (valid : IsValidMachine machine) (items : IsMapped net timing nodes) (formed : IsWellFormed nodes) (makes : MakesImages nodes timing) where
   -- homes of the items, and a plan that fits there
   record AreAt (homes : Homes) : Type 0 where
     logic : homes.logic ≡ machine.logic
@@ -86,20 +85,21 @@ module _ (net : Netlist) (machine : Machine) (timing : Timing) (nodes : NodeNet)
     are = made.claimed;
   }
 
-  module _ (there : (others : NodeNet) → AreItems net timing others → AreSameItems others nodes) (back : (others : NodeNet) → AreItems net timing others → AreSameItems nodes others)
+  module _ (same : (others : NodeNet) → IsMapped net timing others → others ≡ nodes)
       (best : (start : Homes) → (better : Homes) × IsBetter nodes machine start better)
       (one_best : (start one other : Homes) → IsBetter nodes machine start one → IsBetter nodes machine start other → one ≡ other)
       (decided : (homes : Homes) → AreHomes nodes homes → HomesFit nodes machine homes ⊎ (HomesFit nodes machine homes → ⊥)) where
-    kept : (others : NodeNet) → AreItems net timing others → (homes : Homes) → HomesFit others machine homes → HomesFit nodes machine homes
-    kept others are homes fit = fit_kept others nodes homes machine (there others are) (back others are) (tables_counted nodes homes formed) fit
+    -- the items that fit are these
+    kept : (P : NodeNet → Type 0) (others : NodeNet) → IsMapped net timing others → P others → P nodes
+    kept P others are = subst P (same others are)
 
     plain_at : (homes : Homes) → ArePicked nodes machine homes → AreAt homes
     plain_at homes picked = record { logic = picked.logic; array = picked.array; are = homes_are nodes machine homes formed valid picked; memories = picked.memories }
 
     plain_design : DesignFits net machine timing → HasDesign Plain net machine timing
     plain_design fits =
-        let picked : ArePicked nodes machine fits.homes = picked_kept nodes fits.nodes (back fits.nodes fits.items) machine fits.homes fits.picked in
-        let fit = kept fits.nodes fits.items fits.homes (record { plan = fits.plan; first_fit = fits.first_fit; fits = fits.fits }) in
+        let picked : ArePicked nodes machine fits.homes = kept (λ n. ArePicked n machine fits.homes) fits.nodes fits.items fits.picked in
+        let fit = kept (λ n. HomesFit n machine fits.homes) fits.nodes fits.items (record { plan = fits.plan; first_fit = fits.first_fit; fits = fits.fits }) in
         let made = design_at fits.acyclic fits.homes (plain_at fits.homes picked) fit in
         chosen_as Plain fits.homes (crossings nodes fits.homes) false fits.homes picked made (record {
           homes = made.homes_same;
@@ -114,7 +114,7 @@ module _ (net : Netlist) (machine : Machine) (timing : Timing) (nodes : NodeNet)
       plain = fits.plain
 
       picked : ArePicked nodes machine plain
-      picked = picked_kept nodes fits.nodes (back fits.nodes fits.items) machine plain fits.picked
+      picked = kept (λ n. ArePicked n machine plain) fits.nodes fits.items fits.picked
 
       better : (better : Homes) × IsBetter nodes machine plain better
       better = best plain
@@ -138,10 +138,10 @@ module _ (net : Netlist) (machine : Machine) (timing : Timing) (nodes : NodeNet)
 
       plain_fit : (HomesFit nodes machine better.0 → ⊥) → HomesFit nodes machine plain
       plain_fit none = elim fits.fit [
-        | inl here ↦ kept fits.nodes fits.items plain here
+        | inl here ↦ kept (λ n. HomesFit n machine plain) fits.nodes fits.items here
         | inr other ↦
-            let mine : IsBetter nodes machine plain other.0 = better_kept fits.nodes nodes (there fits.nodes fits.items) machine plain other.0 other.1 in
-            absurd (none (subst (HomesFit nodes machine) (one_best plain other.0 better.0 mine better.1) (kept fits.nodes fits.items other.0 other.2)))
+            let mine : IsBetter nodes machine plain other.0 = kept (λ n. IsBetter n machine plain other.0) fits.nodes fits.items other.1 in
+            absurd (none (subst (HomesFit nodes machine) (one_best plain other.0 better.0 mine better.1) (kept (λ n. HomesFit n machine other.0) fits.nodes fits.items other.2)))
       ]
 
       made_at : (homes : Homes) (best : Bool) (made : HasDesignAt homes)

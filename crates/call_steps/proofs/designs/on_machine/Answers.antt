@@ -13,8 +13,8 @@ invariant_of-result c =
       machine_valid = is.machine_valid;
       runnable = record {
         valid = is.valid;
-        image = image_of planned.net planned.timing compiled.nodes compiled.image _ design.items design.built.fits design.built.matches
-            (c.same_inputs.ensures planned.net planned.timing compiled.nodes is.valid design.items) is.shows;
+        image = image_of planned.net planned.timing compiled.nodes compiled.image _ design.items.items design.built.fits design.built.matches
+            (c.same_inputs.ensures planned.net planned.timing compiled.nodes is.valid design.items.items) is.shows;
       };
       made = record { chosen = planned.chosen; is = is.is; image_is = refl };
     }

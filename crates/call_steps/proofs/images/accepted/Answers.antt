@@ -9,9 +9,9 @@ returns-in-Ok-clause-image c =
     let timing = c.args.timing.now in
     let nodes = c.args.mapped.nodes in
     let image = c.args.file.image in
-    image_of net timing nodes image (lists_of c.args.file.claims) c.requires.items c.in-Ok.ensures.says.0 c.in-Ok.ensures.says.1
-    (c.same_inputs.ensures net timing nodes c.requires.net c.requires.items)
-    (c.matching_images_show.ensures net timing nodes image (lists_of c.args.file.claims) c.requires.net c.requires.items c.in-Ok.ensures.says.0 c.in-Ok.ensures.says.1)
+    image_of net timing nodes image (lists_of c.args.file.claims) c.requires.items.items c.in-Ok.ensures.says.0 c.in-Ok.ensures.says.1
+    (c.same_inputs.ensures net timing nodes c.requires.net c.requires.items.items)
+    (c.matching_images_show.ensures net timing nodes image (lists_of c.args.file.claims) c.requires.net c.requires.items.items c.in-Ok.ensures.says.0 c.in-Ok.ensures.says.1)
 
 pub returns-in-Err-clause-image : goal.returns-in-Err-clause-image
 returns-in-Err-clause-image c = tt

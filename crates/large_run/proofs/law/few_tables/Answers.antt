@@ -10,5 +10,5 @@ returns-clause-used c net timing nodes valid are homes port count uses = used_ta
 
 pub returns-clause-never : goal.returns-clause-never
 returns-clause-never c net machine timing valid room port needed limit lacks =
-    let few = used_tables net timing lacks.nodes valid lacks.items lacks.homes port needed lacks.crowded.uses in
+    let few = used_tables net timing lacks.nodes valid lacks.items.items lacks.homes port needed lacks.crowded.uses in
     omega (arith, few, room port (omega (arith, lacks.crowded.logic, lacks.picked.logic)), lacks.crowded.past, lacks.crowded.most)

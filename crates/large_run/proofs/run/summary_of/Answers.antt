@@ -9,7 +9,7 @@ use Rattle.large_run.proofs.run.summary_of.Goals as goal
 pub run_machine-requires-clause-columns : goal.run_machine-requires-clause-columns
 run_machine-requires-clause-columns g c κs within =
     columns_large c.args._gates_count c.args._cycles c.args.design.now c.requires.design
-    (c.same_inputs.ensures (large_netlist c.args._gates_count) large_timing c.args.design.now.compiled.nodes (valid_large c.args._gates_count c.requires.few_gates) c.requires.design.compiled.items)
+    (c.same_inputs.ensures (large_netlist c.args._gates_count) large_timing c.args.design.now.compiled.nodes (valid_large c.args._gates_count c.requires.few_gates) c.requires.design.compiled.items.items)
 
 pub summed_up-requires : goal.summed_up-requires
 summed_up-requires g c =

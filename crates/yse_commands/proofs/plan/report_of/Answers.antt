@@ -3,7 +3,7 @@ use Rattle.yse_commands.proofs.plan.report_of.Goals as goal
 pub report-requires-clause-nodes : goal.report-requires-clause-nodes
 report-requires-clause-nodes c =
     let planned = c.planned.inside in
-    c.items_are_well_formed.ensures planned.net planned.timing planned.chosen.compiled.nodes c.planned.invariant.valid c.planned.invariant.is.design.items
+    c.items_are_well_formed.ensures planned.net planned.timing planned.chosen.compiled.nodes c.planned.invariant.valid c.planned.invariant.is.design.items.items
 
 pub returns : goal.returns
 returns c =

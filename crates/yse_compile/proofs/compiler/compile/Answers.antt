@@ -57,4 +57,4 @@ returns-clause-shown c =
     let same = rw (c.in_ok-routed.ensures.same, c.in_ok-planned.ensures.same) at c.in_ok-compiled.ensures.same in
     let built = c.in_ok-compiled.ensures.built in
     c.matching_images_show.ensures c.args.net.now c.args.timing.now c.in_ok-compiled.compiled.nodes c.in_ok-compiled.compiled.image built.claims c.requires.net
-    (rw (ap (λ made. made.nodes) same, c.in_ok-housed.ensures.same) c.in_ok-nodes.ensures.items) built.fits built.matches
+    (rw (ap (λ made. made.nodes) same, c.in_ok-housed.ensures.same) c.in_ok-nodes.ensures.items.items) built.fits built.matches

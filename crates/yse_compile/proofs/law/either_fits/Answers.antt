@@ -1,7 +1,7 @@
-use Rattle.std.proofs.Common.{◌≡◌, inl, inr, subst}
+use Rattle.std.proofs.Common.{inl, inr}
 use Rattle.home_pick.specs.Better.{IsBetter}
 use Rattle.yse_compile.specs.Chosen.{HomesFit}
-use Rattle.yse_compile.proofs.lemmas.ChoiceLemmas.{plain_either}
+use Rattle.yse_compile.proofs.{FitLemmas.moved, lemmas.ChoiceLemmas.plain_either}
 use Rattle.yse_compile.proofs.law.either_fits.Goals as goal
 
 pub returns-clause-plain : goal.returns-clause-plain
@@ -15,11 +15,11 @@ returns-clause-nodes c net machine timing fits needed limit lacks = c.nodes_firs
 
 pub returns-clause-fit : goal.returns-clause-fit
 returns-clause-fit c net machine timing nodes plain best valid items picked is fits =
-    let same : fits.plain ≡ plain = c.one_homes.ensures net machine timing fits.nodes nodes fits.items items fits.plain plain fits.picked picked in
+    let same = c.one_list.ensures.one net timing fits.nodes nodes fits.items items in
+    let homes = c.one_homes.ensures net machine timing fits.nodes nodes fits.items items fits.plain plain fits.picked picked in
     elim fits.fit [
-      | inl here ↦ inl (c.one_better_homes.ensures.fit net machine timing fits.nodes nodes valid fits.items items plain (subst (HomesFit fits.nodes machine) same here))
+      | inl here ↦ inl (moved (λ n h. HomesFit n machine h) same homes here)
       | inr there ↦
-          let start : IsBetter fits.nodes machine plain there.0 = subst (λ h. IsBetter fits.nodes machine h there.0) same there.1 in
-          let better : there.0 ≡ best = c.one_better_homes.ensures.better net machine timing fits.nodes nodes fits.items items plain there.0 best start is in
-          inr (c.one_better_homes.ensures.fit net machine timing fits.nodes nodes valid fits.items items best (subst (HomesFit fits.nodes machine) better there.2))
+          let better = c.one_better.ensures nodes machine plain there.0 best (moved (λ n h. IsBetter n machine h there.0) same homes there.1) is in
+          inr (moved (λ n h. HomesFit n machine h) same better there.2)
     ]

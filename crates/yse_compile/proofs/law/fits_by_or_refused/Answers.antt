@@ -18,7 +18,7 @@ returns c Plain net machine timing nodes valid machine_valid acyclic items = eli
 ]
 returns c Better net machine timing nodes valid machine_valid acyclic items =
     either_or_refused net machine timing machine_valid
-    (λ others is. c.items_are_well_formed.ensures net timing others valid is)
+    (λ others is. c.items_are_well_formed.ensures net timing others valid is.items)
     (λ others homes formed are. c.planned_or_refused.ensures.some others machine homes formed are)
     (λ others homes formed fit lacks. elim lacks [
       | inl long ↦ c.planned_or_refused.ensures.slots others machine homes formed fit long.0 long.1 long.2

@@ -1,13 +1,10 @@
-use Rattle.std.proofs.Common.{◌≡◌, ◌≤◌, ◌<◌, subst, arith}
-use Rattle.plan_defs.specs.Tables.{UsesTables}
-use Rattle.yse_compile.proofs.lemmas.SameTables.{tables_few}
+use Rattle.slot_plan.specs.Refusals.{IsCrowded}
+use Rattle.yse_compile.proofs.FitLemmas.{moved}
 use Rattle.yse_compile.proofs.law.fits_functions.Goals as goal
 
 pub returns : goal.returns
 returns c net machine timing fits port needed limit lacks =
-    let same = c.one_list.ensures.same net timing lacks.nodes fits.nodes lacks.items fits.items in
-    let homes : lacks.homes ≡ fits.homes = c.one_homes.ensures net machine timing lacks.nodes fits.nodes lacks.items fits.items lacks.homes fits.homes lacks.picked fits.picked in
-    let uses : UsesTables lacks.nodes fits.homes port needed = subst (λ h. UsesTables lacks.nodes h port needed) homes lacks.crowded.uses in
-    let few = fits.fits.tables port (subst (λ h. port < h.logic) homes lacks.crowded.logic) in
-    let below : needed ≤ few.count = tables_few lacks.nodes fits.nodes fits.homes port needed few.count same uses few.uses in
-    omega (arith, below, few.few, lacks.crowded.most, lacks.crowded.past)
+    let nodes = c.one_list.ensures.one net timing lacks.nodes fits.nodes lacks.items fits.items in
+    let homes = c.one_homes.ensures net machine timing lacks.nodes fits.nodes lacks.items fits.items lacks.homes fits.homes lacks.picked fits.picked in
+    c.planned_or_refused.ensures.functions fits.nodes machine fits.homes (record { plan = fits.plan; first_fit = fits.first_fit; fits = fits.fits })
+    port needed limit (moved (λ n h. IsCrowded n h machine port needed limit) nodes homes lacks.crowded)

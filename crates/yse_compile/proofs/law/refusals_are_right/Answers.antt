@@ -28,7 +28,7 @@ returns-clause-plan c Better net machine timing nodes plain valid acyclic items 
     | inl memory ↦ ap of_plan memory
     | inr best ↦ elim (c.either_fits.ensures.fit net machine timing nodes plain best.0 valid items picked best.1 fits) [
       | inl here ↦ plan_only net machine timing nodes acyclic items plain picked
-          (c.planned_or_refused.ensures.slots nodes machine plain (c.items_are_well_formed.ensures net timing nodes valid items) here)
+          (c.planned_or_refused.ensures.slots nodes machine plain (c.items_are_well_formed.ensures net timing nodes valid items.items) here)
           (c.planned_or_refused.ensures.functions nodes machine plain here) refusal lacks
       | inr there ↦ absurd (best.2 there)
     ]

@@ -1,8 +1,12 @@
-use Rattle.std.proofs.Common.{◌≡◌, arith}
+use Rattle.std.proofs.Common.{arith}
+use Rattle.slot_plan.specs.Refusals.{IsLong}
+use Rattle.yse_compile.proofs.FitLemmas.{moved}
 use Rattle.yse_compile.proofs.law.slots_first.Goals as goal
 
 pub returns : goal.returns
 returns c net machine timing valid needed limit port tables most first second =
-    let same : first.long.plan.needed ≡ second.crowded.plan.needed =
-    c.one_need.ensures net machine timing first.nodes second.nodes valid first.items second.items first.homes second.homes first.picked second.picked first.long.plan second.crowded.plan first.long.is second.crowded.is in
-    omega (arith, same, second.crowded.short, first.long.needs, first.long.most, first.long.past)
+    let nodes = c.one_list.ensures.one net timing first.nodes second.nodes first.items second.items in
+    let homes = c.one_homes.ensures net machine timing first.nodes second.nodes first.items second.items first.homes second.homes first.picked second.picked in
+    let long = moved (λ n h. IsLong n h machine needed limit) nodes homes first.long in
+    let plans = c.one_plan.ensures second.nodes second.homes long.plan second.crowded.plan (c.items_are_well_formed.ensures net timing second.nodes valid second.items.items) long.is second.crowded.is in
+    omega (arith, plans.1, second.crowded.short, long.needs, long.most, long.past)

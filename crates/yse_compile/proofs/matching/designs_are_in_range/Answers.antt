@@ -7,8 +7,8 @@ use Rattle.yse_compile.proofs.matching.designs_are_in_range.Goals as goal
 
 pub returns : goal.returns
 returns c net machine timing compiled claims valid valid_machine is are =
-    let formed = c.items_are_well_formed.ensures net timing compiled.nodes valid is.items in
-    let inputs = c.same_inputs.ensures net timing compiled.nodes valid is.items in
+    let formed = c.items_are_well_formed.ensures net timing compiled.nodes valid is.items.items in
+    let inputs = c.same_inputs.ensures net timing compiled.nodes valid is.items.items in
     let few = count_by-le-length (λ signal. is_input signal.driver) net.signals in
     let most = valid.few_signals in
     let columns : column_count compiled.nodes ≤ MAX_SIGNALS = omega (arith, inputs, few, most) in

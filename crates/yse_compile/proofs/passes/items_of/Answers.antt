@@ -5,7 +5,7 @@ pub map_nodes-requires-clause-ranked : goal.map_nodes-requires-clause-ranked
 map_nodes-requires-clause-ranked c = c.in-Ok.ensures.ranks
 
 pub returns-in-Ok-map_nodes-clause-items : goal.returns-in-Ok-map_nodes-clause-items
-returns-in-Ok-map_nodes-clause-items c = c.in-Ok-map_nodes.ensures.items.items
+returns-in-Ok-map_nodes-clause-items c = c.in-Ok-map_nodes.ensures.items
 
 pub returns-in-Ok-clause-either : goal.returns-in-Ok-clause-either
 returns-in-Ok-clause-either c = λ machine either. refl

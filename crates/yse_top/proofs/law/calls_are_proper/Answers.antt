@@ -54,7 +54,7 @@ use Rattle.yse_top.proofs.CommandLemmas.{IsCommand, command_after, command_file,
 use Rattle.yse_top.proofs.OrderLemmas.{DecidesOrder, done_alike, order_ending, order_outcome}
 use Rattle.yse_top.proofs.ProperLemmas.{IsCheck, IsAnswered, alike, full_ending, memory_status, proper_after, writes_ending}
 use Rattle.yse_top.proofs.CheckLemmas.{default_is_valid, reads_check, loop_check, IsRoomLaw, room_check, size_check, trace_only, trace_some}
-use Rattle.yse_top.proofs.{AcceptedLemmas.accepted_check, AcceptedLemmas.interchangeable, TraceLemmas.traces_only, TraceLemmas.traces_some}
+use Rattle.yse_top.proofs.{AcceptedLemmas.accepted_check, TraceLemmas.traces_only, TraceLemmas.traces_some}
 use Rattle.yse_top.proofs.TextLemmas.{HasOneImage, one_text, some_text}
 use Rattle.yse_top.proofs.{OutcomeLemmas.outcome_after, OutcomeLemmas.outcome_ends, OutcomeLemmas.outcome_writes, ChoiceLemmas.HasHomes, ChoiceLemmas.has_homes}
 use Rattle.yse_top.proofs.ReportLemmas.{AreOnce, one_report, some_report}
@@ -449,18 +449,16 @@ returns c =
       all_faults = c.one_list-2.ensures.all;
       faults_lists = c.reads_or_faults-8.ensures.reader;
       stuck = c.reads_as_faults.ensures;
-      accepted = λ net timing file valid acyclic has. accepted_check net timing file (λ one other items items_too.
-          interchangeable file timing one other (c.one_list.ensures.same net timing one other items items_too) (c.items_are_well_formed.ensures net timing other valid items_too)
-          (c.same_inputs.ensures net timing one valid items ∙ sym (c.same_inputs.ensures net timing other valid items_too)))
+      accepted = λ net timing file valid acyclic has. accepted_check net timing file (c.one_list.ensures.one net timing)
           (λ nodes. c.matches_or_not.ensures.one file nodes timing)
           (elim (c.order_or_loop.ensures.one net timing) [
-            | inl (order, is) ↦ (let items = c.items_exist.ensures net timing order valid is in record { nodes = items.0; items = items.1.items; answer = c.matches_or_not.ensures.some file items.0 timing has })
+            | inl (order, is) ↦ (let items = c.items_exist.ensures net timing order valid is in record { nodes = items.0; items = items.1; answer = c.matches_or_not.ensures.some file items.0 timing has })
             | inr (loop, is) ↦ absurd (acyclic loop is.circle)
           ]);
       designs = λ choice net machine timing valid machine_valid timely acyclic fits. elim (c.order_or_loop.ensures.one net timing) [
         | inl (order, is) ↦ (
             let items = c.items_exist.ensures net timing order valid is in
-            let made = c.designs_exist.ensures choice net machine timing items.0 valid machine_valid timely items.1.items items.2 fits in
+            let made = c.designs_exist.ensures choice net machine timing items.0 valid machine_valid timely items.1 items.2 fits in
             record { chosen = made.0; claims = made.1; is = made.2; are = made.3 })
         | inr (loop, is) ↦ absurd (acyclic loop is.circle)
       ];
@@ -475,7 +473,7 @@ returns c =
         some = elim (c.order_or_loop.ensures.one net timing) [
           | inl (order, is) ↦
               let items = c.items_exist.ensures net timing order valid is in
-              c.fits_by_or_refused.ensures choice net machine timing items.0 valid machine_valid acyclic items.1.items
+              c.fits_by_or_refused.ensures choice net machine timing items.0 valid machine_valid acyclic items.1
           | inr (loop, is) ↦ absurd (acyclic loop is.circle)
         ];
         one = λ why other is is_too right right_too. c.one_refusal.ensures net machine timing valid why other right right_too is is_too;
@@ -483,13 +481,13 @@ returns c =
       summaries = c.one_summary.ensures.some;
       one_summary = c.one_summary.ensures.one;
       once = λ choice net machine timing valid. record {
-        formed = λ nodes items. c.items_are_well_formed.ensures net timing nodes valid items;
-        items = c.one_list.ensures.same net timing;
+        formed = λ nodes items. c.items_are_well_formed.ensures net timing nodes valid items.items;
+        items = c.one_list.ensures.one net timing;
         one = λ a b plain other items items_too picked picked_too used used_too fit fit_too.
             c.one_use.ensures choice net machine timing a b plain other valid items items_too picked picked_too used used_too fit fit_too;
       };
       homes = λ choice net machine timing valid machine_valid fits.
-          has_homes net machine timing machine_valid (λ nodes items. c.items_are_well_formed.ensures net timing nodes valid items)
+          has_homes net machine timing machine_valid (λ nodes items. c.items_are_well_formed.ensures net timing nodes valid items.items)
           (λ nodes start. c.some_better.ensures nodes machine start) (λ nodes start. c.one_better.ensures nodes machine start)
           (λ nodes homes formed housed. elim (c.planned_or_refused.ensures.some nodes machine homes formed housed) [
             | inl fit ↦ inl fit
