@@ -38,6 +38,6 @@ module _ (names : Option (List ℕ → Bool)) (bytes : Option (List ℕ → List
     pub each : (place : ℕ) (reading : Reading) → slice_get readings place ≡ Some reading → IsReading reading
     pub starts : new.starts ≡ raised old.starts (length readings)
     pub absent_starts : new.absent_starts ≡ raised old.absent_starts (count_by (λ reading. is_absent names reading.file) readings)
-    pub reads : new.reads ≤ raised old.reads (length readings * (MAX_TEXT_BYTES + 2))
+    pub reads : new.reads ≤ raised old.reads (length readings * (MAX_TEXT_BYTES + 1))
     pub given : GaveEach status readings old.given new.given
     pub kept : old.faults ≤ new.faults

@@ -47,7 +47,7 @@ CountsGiven (Err why) limit old new = (old ≤ new) × (new ≤ raised old (limi
 -- one `start`, and then such reads
 pub record CountsFile (absent : Bool) (limit : ℕ) (result : Result (List ℕ) ReadNo) (old new : FileCounts) : Type 0 where
   pub faults : CountsFaults (is_failed result) old new
-  pub reads : new.reads ≤ raised old.reads (limit + 2)
+  pub reads : new.reads ≤ raised old.reads (limit + 1)
   pub given : CountsGiven result limit old.given new.given
   pub starts : new.starts ≡ raised old.starts 1
   pub absent_starts : new.absent_starts ≡ raised_if absent old.absent_starts

@@ -67,7 +67,7 @@ module _ (names : Option (List ℕ → Bool)) (bytes : Option (List ℕ → List
     kept = omega arith;
   }
 
-  pub one_reading : {end : Status} (old new : FileCounts) (reading : Reading) → IsReading names bytes old new reading → new.starts ≡ raised old.starts 1 → new.absent_starts ≡ raised_if (is_absent names reading.file) old.absent_starts → new.reads ≤ raised old.reads (MAX_TEXT_BYTES + 2) → Gave end reading.bytes old.given new.given → old.faults ≤ new.faults
+  pub one_reading : {end : Status} (old new : FileCounts) (reading : Reading) → IsReading names bytes old new reading → new.starts ≡ raised old.starts 1 → new.absent_starts ≡ raised_if (is_absent names reading.file) old.absent_starts → new.reads ≤ raised old.reads (MAX_TEXT_BYTES + 1) → Gave end reading.bytes old.given new.given → old.faults ≤ new.faults
       → AreReadings names bytes old new end (reading ∷ [])
   one_reading old new reading is starts absent_starts reads given kept = record {
     each = each;
@@ -102,7 +102,7 @@ module _ (names : Option (List ℕ → Bool)) (bytes : Option (List ℕ → List
         then.absent_starts ∙ ap (λ count. raised count (count_by (λ r. is_absent names r.file) rest)) are.absent_starts
         ∙ raised_more old.absent_starts (count_by (λ r. is_absent names r.file) first) (count_by (λ r. is_absent names r.file) rest)
         ∙ ap (raised old.absent_starts) (sym (sum_by-append absent first rest));
-    reads = rw (length-append first rest) (reads_both old.reads mid.reads new.reads (length first) (length rest) (MAX_TEXT_BYTES + 2) are.reads then.reads);
+    reads = rw (length-append first rest) (reads_both old.reads mid.reads new.reads (length first) (length rest) (MAX_TEXT_BYTES + 1) are.reads then.reads);
     given = each_both end first rest old.given mid.given new.given (each_so end first old.given mid.given are.given) then.given;
     kept = omega (arith, are.kept, then.kept);
   }
