@@ -38,9 +38,9 @@ use yse_compile::law::{
 use yse_compile::matching::designs_are_in_range;
 
 /// Words come to one outcome over what is read, but that any loop may be named where there are several, and that
-/// want of memory may come in its place; and they come to some outcome, whatever the files hold. The files of the
-/// command are begun in their order, no other is, and none after one that can't be read. Words ask for a
-/// command exactly where they are of its form.
+/// want of memory may come in its place; and they come to some outcome, whatever the files hold. What is read are
+/// files of the command, from the first on in their order, and none after one that can't be read. Words ask for
+/// a command exactly where they are of its form.
 pub fn calls_are_proper()
     ensures proper { AreProper }
     ensures outcomes { HaveOutcomes }

@@ -42,8 +42,8 @@ use std::thread::Threads;
 /// and 1 in rank order. `--last` names the file of the list of gates that read the last turn, in mixed mode
 /// and no other. `run` and `order` take `--machine FILE`, the machine that the netlist is compiled
 /// for, and `--banks B`, how many turns a port may run ahead of its readers, 1 to 8; `run` takes
-/// `--workers N`, the workers that step the machine's ports, 1 to 64, each in a thread of its own where
-/// one can be made; `order` takes `--order FILE`, the order of the ports' steps. An order that ends before
+/// `--workers N`, the workers that step the machine's ports, 1 to 64, in threads where these can be made and
+/// gain anything; `order` takes `--order FILE`, the order of the ports' steps. An order that ends before
 /// every port is done writes the rows that are done, and ends with `Unfinished`.
 ///
 /// `plan NETLIST [--machine FILE] [--mode rank|unit|mixed] [--last FILE]` writes the report of the netlist's plan on the machine
@@ -110,7 +110,7 @@ pub fn yse<R: Threads + Wait + Sync, F: Files, O: Sink, E: Sink, G: Gate + Send>
     // The call comes to an outcome that is expected of the words and of what was read, and the gates were told of its
     // turns.
     ensures expected { (readings : List Reading) × (outcome : Outcome)
-        × AreReadings (F.names files.old) (F.bytes files.old) (F.counts files.old) (F.counts files.new) readings
+        × AreReadings (F.names files.old) (F.bytes files.old) (F.counts files.old) (F.counts files.new) outcome.status readings
         × Expected (map string_bytes words.now) readings outcome
         × EndsAs result outcome (O.taken out.old) (O.taken out.new) (O.faults out.old) (O.faults out.new)
         (TakesLine (E.taken err.old) (E.taken err.new) (E.faults err.old) (E.faults err.new))
