@@ -4,10 +4,11 @@ use Rattle.std.proofs.lemmas.{Bool.le-leb, Bool.lt-leb, List.length-replicate}
 use Rattle.std.specs.Prelude.{min}
 use Rattle.limits.specs.declared.TheConstants.{MAX_TEXT_BYTES}
 use Rattle.edge_io.specs.{Counts.raised, FileCounts.CountsFile, Names.is_absent, Names.IsAbsent, Names.OfTold, declared.counts.FileCounts.FileCounts}
+use Rattle.edge_io.specs.declared.files.Files as files
 use Rattle.edge_io.specs.declared.reading.ReadNo.{ReadNo}
 use Rattle.edge_io.specs.declared.reading.ReadNo.TheVariants as no
 use Rattle.refusals.specs.{declared.refusal.Refusal.Refusal, declared.status.Status.Status, declared.status.Status.TheVariants.Limit, Lines.too_long_line}
-use Rattle.call_steps.specs.{Checks.read_fault, Checks.text_of, Outcome.Outcome, Outcome.refusal, Outcome.out_of_memory, Readings.Gave, Readings.AreReadings, code.Texts.GivesText, Refused.refused_of}
+use Rattle.call_steps.specs.{Checks.read_fault, Checks.text_of, Outcome.Outcome, Outcome.refusal, Outcome.out_of_memory, Readings.Gave, Readings.AreReadings, code.Texts.AnswersText, code.Texts.GivesText, Refused.answer, Refused.refused_of, Steps.FilesPass, Steps.IsTextOf, Steps.TextIn}
 use Rattle.call_steps.proofs.lemmas.ReadingLemmas.{one_reading}
 
 -- the text of a file of at most so many bytes, and the refusal of a longer one
@@ -99,3 +100,24 @@ module _ (names : Option (List ℕ → Bool)) (bytes : Option (List ℕ → List
         counted.starts counted.absent_starts counted.reads counted.given counted.faults.kept;
     text = is;
   }
+
+abbrev refuses : Outcome → Result (List ℕ) Outcome
+refuses outcome = Err outcome
+
+-- such an answer is the step of a text
+pub text_passes : {F : Type 0} {tells : files.Ghosts F} {old new : F} {file : List ℕ} (result : Result (List ℕ) Refusal) → tells.names new ≡ tells.names old → tells.bytes new ≡ tells.bytes old
+    → GivesText (tells.names old) (tells.bytes old) (tells.counts old) (tells.counts new) file result → FilesPass tells old new (TextIn file) (answer result)
+text_passes {tells = tells} {old = old} {new = new} {file = file} result same_names same_bytes gives = record {
+  same_names = same_names;
+  same_bytes = same_bytes;
+  readings = record { file = file; bytes = gives.gave } ∷ [];
+  are = gives.reading;
+  step = (gives.gave, refl, by gives.gave result gives.text);
+}
+  where
+    by : (gave : Option (List ℕ)) (r : Result (List ℕ) Refusal) → AnswersText file gave r → IsTextOf file gave (answer r)
+    by None (Ok text) never = absurd never
+    by None (Err why) fault = ap refuses fault
+    by (Some bytes) (Ok text) whole = inl whole
+    by (Some bytes) (Err why) (inl long) = inl long
+    by (Some bytes) (Err why) (inr memory) = inr (ap refuses memory)

@@ -1,2 +1,2 @@
 pub mod ReadingLemmas
-pub mod WeakerLemmas
+pub mod StepLemmas

@@ -1,7 +1,5 @@
--- The checks of a call, one after the other: each lets a value pass, with which the next ones go on, or
--- ends the call. A chain of checks is a relation between the files that are begun from here on and the
--- outcome of the call.
-use Rattle.std.specs.Prelude.{◌≡◌, ◌⊎◌, ℕ, ◌+◌, ◌*◌, ◌^◌, ◌<◌, ◌≤◌, nat_le, if◌then◌else◌, List, [], ◌∷◌, length, Option, Some, None, Result, Ok, Err}
+-- The checks of a call: each lets a value pass, with which the next ones go on, or refuses; and how a call ends.
+use Rattle.std.specs.Prelude.{◌≡◌, ◌⊎◌, ℕ, ◌+◌, ◌*◌, ◌^◌, ◌<◌, ◌≤◌, nat_le, if◌then◌else◌, List, length, Option, Some, None, Result, Ok, Err}
 use Rattle.std.specs.List.{sum_by}
 use Rattle.limits.specs.declared.TheConstants.{LANES, MAX_CELLS, MAX_FAULT_SIGNALS, MAX_PACK_BITS, MAX_TEXT_BYTES}
 use Rattle.net_defs.specs.declared.{netlist.Block.Block, homes.HomeChoice.HomeChoice, netlist.Netlist.Netlist, timing.Timing.Timing, stimulus.Stimulus.Stimulus}
@@ -20,18 +18,10 @@ use Rattle.yse_compile.specs.{declared.compiler.CompNo.CompNo, Chosen.FitsBy, Co
 use Rattle.refusals.specs.declared.status.Status.TheVariants as status
 use Rattle.refusals.specs.Lines.{read_fault_line, too_long_line, machine_line, netlist_line, faults_line, loop_line, overfull_line, stimulus_line, cells_line, bits_limit_line, signals_line, lanes_line, order_line, list_line}
 use Rattle.call_steps.specs.Outcome.{Outcome, Turns, done, refusal, telling, out_of_memory}
-use Rattle.call_steps.specs.Readings.{Reading}
-
--- ---- chains
 
 -- a check refuses with an outcome; want of memory may come in place of each answer
 abbrev pub Refuses : {X : Type 0} → (Result X Outcome → Type 0) → Outcome → Type 0
 Refuses Checked outcome = Checked (Err outcome) ⊎ (outcome ≡ out_of_memory)
-
--- what a check lets pass goes on, and what it refuses ends here, with no further file begun
-abbrev pub After : {X : Type 0} → (Result X Outcome → Type 0) → (X → List Reading → Outcome → Type 0) → List Reading → Outcome → Type 0
-After {X} Checked Next readings outcome =
-    ((x : X) × Checked (Ok x) × Next x readings outcome) ⊎ ((readings ≡ []) × Refuses Checked outcome)
 
 -- the text of a file that isn't too long
 abbrev pub text_of : List ℕ → List ℕ → Result (List ℕ) Outcome
@@ -39,20 +29,6 @@ text_of file bytes = if nat_le (length bytes) MAX_TEXT_BYTES then Ok bytes else 
 
 abbrev pub read_fault : List ℕ → Outcome
 read_fault file = refusal status.ReadFault (read_fault_line file)
-
--- a file that was begun: what can't be read ends the call, and a text goes on
-abbrev pub AfterRead : List ℕ → Option (List ℕ) → (List ℕ → List Reading → Outcome → Type 0) → List Reading → Outcome → Type 0
-AfterRead file None Next readings outcome = (readings ≡ []) × (outcome ≡ read_fault file)
-AfterRead file (Some bytes) Next readings outcome = After (λ result. text_of file bytes ≡ result) Next readings outcome
-
--- the named file is the next one that is begun
-abbrev pub AfterFile : List ℕ → (List ℕ → List Reading → Outcome → Type 0) → List Reading → Outcome → Type 0
-AfterFile file Next [] outcome = ⊥
-AfterFile file Next (reading ∷ readings) outcome = (reading.file ≡ file) × AfterRead file reading.bytes Next readings outcome
-
--- the call comes to such an outcome, or to want of memory, with no further file begun
-abbrev pub Ends : (Outcome → Type 0) → List Reading → Outcome → Type 0
-Ends IsEnd readings outcome = (readings ≡ []) × (IsEnd outcome ⊎ (outcome ≡ out_of_memory))
 
 -- such an output is written, the gates are told of these turns, and nothing is refused
 abbrev pub WritesTold : Option Turns → (List ℕ → Type 0) → Outcome → Type 0

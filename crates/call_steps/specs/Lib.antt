@@ -1,9 +1,9 @@
 pub mod Checks
 pub mod code
 pub mod Designs
-pub mod Files
+pub mod FileSteps
 pub mod Images
 pub mod Outcome
-pub mod Passing
 pub mod Readings
 pub mod Refused
+pub mod Steps

@@ -2,11 +2,11 @@
 
 ghost use Rattle.std.specs.Prelude.{◌≡◌, IfOk};
 ghost use Rattle.cmd_words.specs.Forms.{IsRunInRange};
-ghost use Rattle.machine_text.specs.Machines.{IsValid as IsValidMachine, ports_of};
+ghost use Rattle.machine_text.specs.Machines.{ports_of};
 ghost use Rattle.net_defs.specs.Valid.{IsValid, IsValidTiming, input_count};
 ghost use Rattle.stim_text.specs.{Lanes.AreLanes, Orders.IsValidOrder};
-ghost use Rattle.call_steps.specs.Passing.{AfterBuilt, AfterOrderFile, AfterPlaced, AfterPlacedOn, AfterReady, AfterRunnable, FilesPass};
-ghost use Rattle.call_steps.specs.{Checks.HasFewCells, Designs.IsRunnable, Files.AfterLanes, Images.IsImageOf, Refused.Satisfies};
+ghost use Rattle.call_steps.specs.FileSteps.{BuiltIn, LanesIn, OrderIn, PlacedOnMachine, ReadyOnMachine, RunnableIn};
+ghost use Rattle.call_steps.specs.{Checks.HasFewCells, Designs.IsRunnable, Images.IsImageOf, Refused.Satisfies, Refused.answer, Steps.FilesPass};
 
 use crate::checks::{Built, few_cells, of_design};
 use crate::images::{accepted, items_of};
@@ -98,29 +98,9 @@ pub fn planned_on_machine<'a, F: Files>(
     words: &'a RunWords,
 ) -> Result<Planned, Refusal<'a>>
     requires { IsRunInRange words.now }
-    ensures same_names { F.names files.new ≡ F.names files.old }
-    ensures same_bytes { F.bytes files.new ≡ F.bytes files.old }
-    ensures step { FilesPass F.Files.own files.old files.new (AfterPlaced words.now) result }
-    ensures homes { IfOk result (λ design. design.homes ≡ words.now.homes) }
+    ensures { FilesPass F.Files.own files.old files.new (PlacedOnMachine words.now) (answer result) }
 {
     let machine = machine_from(alloc, files, &words.machine)?;
-    place(alloc, files, words, machine)
-}
-
-/// The design of the words on this machine.
-fn place<'a, F: Files>(
-    alloc: Global,
-    files: &mut F,
-    words: &'a RunWords,
-    machine: Machine,
-) -> Result<Planned, Refusal<'a>>
-    requires range { IsRunInRange words.now }
-    requires machine { IsValidMachine machine }
-    ensures same_names { F.names files.new ≡ F.names files.old }
-    ensures same_bytes { F.bytes files.new ≡ F.bytes files.old }
-    ensures step { FilesPass F.Files.own files.old files.new (AfterPlacedOn words.now machine) result }
-    ensures homes { IfOk result (λ design. design.homes ≡ words.now.homes) }
-{
     let Timed { net, timing } = design_from(alloc, files, words)?;
     match compile_with(alloc, &net, &machine, &timing, words.homes) {
         Ok(chosen) => Ok(Planned {
@@ -134,24 +114,8 @@ fn place<'a, F: Files>(
     }
 }
 
-/// The same with the image alone.
-pub fn design_on_machine<'a, F: Files>(
-    alloc: Global,
-    files: &mut F,
-    words: &'a RunWords,
-) -> Result<OnMachine, Refusal<'a>>
-    requires { IsRunInRange words.now }
-    ensures same_names { F.names files.new ≡ F.names files.old }
-    ensures same_bytes { F.bytes files.new ≡ F.bytes files.old }
-    ensures step { FilesPass F.Files.own files.old files.new (AfterPlaced words.now) result }
-    ensures homes { IfOk result (λ design. design.homes ≡ words.now.homes) }
-{
-    let planned = planned_on_machine(alloc, files, words)?;
-    Ok(on_machine(planned))
-}
-
 /// The image of a design. What it was made from is given up.
-fn on_machine(planned: Planned) -> OnMachine
+pub fn on_machine(planned: Planned) -> OnMachine
     ensures { result ≡ planned }
 {
     same_inputs();
@@ -177,12 +141,10 @@ pub fn ready_on_machine<'a, F: Files>(
     words: &'a RunWords,
 ) -> Result<Ready, Refusal<'a>>
     requires { IsRunInRange words.now }
-    ensures same_names { F.names files.new ≡ F.names files.old }
-    ensures same_bytes { F.bytes files.new ≡ F.bytes files.old }
-    ensures step { FilesPass F.Files.own files.old files.new (AfterReady words.now) result }
-    ensures homes { IfOk result (λ ready. ready.placed.homes ≡ words.now.homes) }
+    ensures { FilesPass F.Files.own files.old files.new (ReadyOnMachine words.now) (answer result) }
 {
-    let design = design_on_machine(alloc, files, words)?;
+    let planned = planned_on_machine(alloc, files, words)?;
+    let design = on_machine(planned);
     let stimulus = stimulus_in(alloc, files, words.stimulus.as_bytes(), &design.run.net)?;
     Ok(Ready { design, stimulus })
 }
@@ -195,9 +157,7 @@ pub fn runnable_in<'a, F: Files>(
     file: &'a [u8],
 ) -> Result<Runnable, Refusal<'a>>
     requires { IsRunInRange words.now }
-    ensures same_names { F.names files.new ≡ F.names files.old }
-    ensures same_bytes { F.bytes files.new ≡ F.bytes files.old }
-    ensures step { FilesPass F.Files.own files.old files.new (AfterRunnable words.now file.now) result }
+    ensures step { FilesPass F.Files.own files.old files.new (RunnableIn words.now file.now) (answer result) }
     ensures runnable { IfOk result IsRunnable }
 {
     let Timed { net, timing } = design_from(alloc, files, words)?;
@@ -215,9 +175,7 @@ fn built_in<'a, F: Files>(
 ) -> Result<Built, Refusal<'a>>
     requires valid { IsValid net }
     requires timing { IsValidTiming timing.now }
-    ensures same_names { F.names files.new ≡ F.names files.old }
-    ensures same_bytes { F.bytes files.new ≡ F.bytes files.old }
-    ensures step { FilesPass F.Files.own files.old files.new (AfterBuilt file.now net timing.now) result }
+    ensures step { FilesPass F.Files.own files.old files.new (BuiltIn file.now net timing.now) (answer result) }
     ensures same { IfOk result (λ built. built.net ≡ net) }
     ensures image { IfOk result (λ built. IsImageOf net timing.now built.image) }
 {
@@ -233,9 +191,7 @@ pub fn lanes_for<'a, F: Files>(
     words: &'a RunWords,
     design: &OnMachine,
 ) -> Result<Lanes, Refusal<'a>>
-    ensures same_names { F.names files.new ≡ F.names files.old }
-    ensures same_bytes { F.bytes files.new ≡ F.bytes files.old }
-    ensures step { FilesPass F.Files.own files.old files.new (AfterLanes words.now.stimulus design.now.net) result }
+    ensures step { FilesPass F.Files.own files.old files.new (LanesIn words.now.stimulus design.now.net) (answer result) }
     ensures lanes { IfOk result (AreLanes (input_count design.now.net)) }
 {
     lanes_in(alloc, files, words.stimulus.as_bytes(), &design.run.net)
@@ -248,9 +204,7 @@ pub fn order_for<'a, F: Files>(
     file: &'a [u8],
     ready: &Ready,
 ) -> Result<Order, Refusal<'a>>
-    ensures same_names { F.names files.new ≡ F.names files.old }
-    ensures same_bytes { F.bytes files.new ≡ F.bytes files.old }
-    ensures step { FilesPass F.Files.own files.old files.new (AfterOrderFile file.now ready.now.placed.machine) result }
+    ensures step { FilesPass F.Files.own files.old files.new (OrderIn file.now ready.now.placed.machine) (answer result) }
     ensures valid { IfOk result (IsValidOrder (ports_of ready.now.placed.machine)) }
 {
     let design = &ready.design;

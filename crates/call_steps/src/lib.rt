@@ -16,7 +16,7 @@ mod sizes;
 
 pub use checks::{Built, Design, WithRanks, few_cells, ordered, ranked};
 pub use designs::{
-    OnMachine, Planned, Ready, Runnable, design_on_machine, few_ready_cells, lanes_for, order_for,
+    OnMachine, Planned, Ready, Runnable, few_ready_cells, lanes_for, on_machine, order_for,
     planned_on_machine, ready_on_machine, runnable_in,
 };
 pub use reading::{Timed, design_from, faults_from, machine_from, netlist_in, stimulus_in};

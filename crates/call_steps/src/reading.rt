@@ -7,9 +7,8 @@ ghost use Rattle.limits.specs.declared.TheConstants.{MAX_TEXT_BYTES};
 ghost use Rattle.machine_text.specs.Machines.{IsValid as IsValidMachine, ports_of};
 ghost use Rattle.net_defs.specs.Valid.{IsFault, IsValid, IsValidStimulus, IsValidTiming, input_count};
 ghost use Rattle.stim_text.specs.{Lanes.AreLanes, Orders.IsValidOrder};
-ghost use Rattle.call_steps.specs.Passing.{AfterNetlistFile, AfterOrderFile, AfterTimed, FilesPass};
-ghost use Rattle.call_steps.specs.Files.{AfterFaultList, AfterLanes, AfterList, AfterMachine, AfterStimulus};
-ghost use Rattle.call_steps.specs.code.{Passing.AfterImageFile, Texts.GivesText};
+ghost use Rattle.call_steps.specs.FileSteps.{DesignOf, FaultsFrom, ImageFileIn, LanesIn, MachineFrom, NetlistIn, OrderIn, StimulusIn, TimingFrom};
+ghost use Rattle.call_steps.specs.{Refused.answer, Steps.FilesPass, Steps.TextIn};
 
 use bench_read::law::reads_as_valid;
 use bench_read::{read_bench, read_faults, read_last};
@@ -38,9 +37,7 @@ pub fn read_text<'a, F: Files>(
     files: &mut F,
     file: &'a [u8],
 ) -> Result<List<u8>, Refusal<'a>>
-    ensures same_names { F.names files.new ≡ F.names files.old }
-    ensures same_bytes { F.bytes files.new ≡ F.bytes files.old }
-    ensures text { GivesText (F.names files.old) (F.bytes files.old) (F.counts files.old) (F.counts files.new) file.now result }
+    ensures step { FilesPass F.Files.own files.old files.new (TextIn file.now) (answer result) }
     ensures short { IfOk result (λ text. length text ≤ MAX_TEXT_BYTES) }
 {
     match read_file(alloc, files, file, MAX_TEXT_BYTES) {
@@ -57,9 +54,7 @@ pub fn machine_from<'a, F: Files>(
     files: &mut F,
     file: &'a Option<Text>,
 ) -> Result<Machine, Refusal<'a>>
-    ensures same_names { F.names files.new ≡ F.names files.old }
-    ensures same_bytes { F.bytes files.new ≡ F.bytes files.old }
-    ensures step { FilesPass F.Files.own files.old files.new (AfterMachine file.now) result }
+    ensures step { FilesPass F.Files.own files.old files.new (MachineFrom file.now) (answer result) }
     ensures valid { IfOk result IsValidMachine }
 {
     match file {
@@ -79,9 +74,7 @@ pub fn design_from<'a, F: Files>(
     words: &'a RunWords,
 ) -> Result<Timed, Refusal<'a>>
     requires range { IsRunInRange words.now }
-    ensures same_names { F.names files.new ≡ F.names files.old }
-    ensures same_bytes { F.bytes files.new ≡ F.bytes files.old }
-    ensures step { FilesPass F.Files.own files.old files.new (AfterTimed words.now) result }
+    ensures step { FilesPass F.Files.own files.old files.new (DesignOf words.now) (answer result) }
     ensures valid { IfOk result (λ timed. IsValid timed.net) }
     ensures timing { IfOk result (λ timed. IsValidTiming timed.timing) }
 {
@@ -96,9 +89,7 @@ pub fn netlist_in<'a, F: Files>(
     files: &mut F,
     file: &'a [u8],
 ) -> Result<Netlist, Refusal<'a>>
-    ensures same_names { F.names files.new ≡ F.names files.old }
-    ensures same_bytes { F.bytes files.new ≡ F.bytes files.old }
-    ensures step { FilesPass F.Files.own files.old files.new (AfterNetlistFile file.now) result }
+    ensures step { FilesPass F.Files.own files.old files.new (NetlistIn file.now) (answer result) }
     ensures valid { IfOk result IsValid }
 {
     let text = read_text(alloc, files, file)?;
@@ -117,9 +108,7 @@ fn timing_from<'a, F: Files>(
 ) -> Result<Timing, Refusal<'a>>
     requires range { IsRunInRange words.now }
     requires valid { IsValid net.now }
-    ensures same_names { F.names files.new ≡ F.names files.old }
-    ensures same_bytes { F.bytes files.new ≡ F.bytes files.old }
-    ensures step { FilesPass F.Files.own files.old files.new (AfterList words.now.last net.now words.now.timing) result }
+    ensures step { FilesPass F.Files.own files.old files.new (TimingFrom words.now.last net.now words.now.timing) (answer result) }
     ensures timing { IfOk result IsValidTiming }
 {
     match &words.last {
@@ -141,9 +130,7 @@ pub fn faults_from<'a, F: Files>(
     net: &Netlist,
 ) -> Result<Option<List<Fault>>, Refusal<'a>>
     requires { IsValid net.now }
-    ensures same_names { F.names files.new ≡ F.names files.old }
-    ensures same_bytes { F.bytes files.new ≡ F.bytes files.old }
-    ensures step { FilesPass F.Files.own files.old files.new (AfterFaultList file.now net.now) result }
+    ensures step { FilesPass F.Files.own files.old files.new (FaultsFrom file.now net.now) (answer result) }
     ensures faults { IfOk result (λ listed. IfSome listed (All (IsFault net.now))) }
 {
     match file {
@@ -164,9 +151,7 @@ pub fn stimulus_in<'a, F: Files>(
     net: &Netlist,
 ) -> Result<Stimulus, Refusal<'a>>
     requires { IsValid net.now }
-    ensures same_names { F.names files.new ≡ F.names files.old }
-    ensures same_bytes { F.bytes files.new ≡ F.bytes files.old }
-    ensures step { FilesPass F.Files.own files.old files.new (AfterStimulus file.now net.now) result }
+    ensures step { FilesPass F.Files.own files.old files.new (StimulusIn file.now net.now) (answer result) }
     ensures valid { IfOk result IsValidStimulus }
     ensures columns { IfOk result (λ stimulus. stimulus.columns ≡ input_count net.now) }
 {
@@ -183,9 +168,7 @@ pub fn lanes_in<'a, F: Files>(
     net: &Netlist,
 ) -> Result<Lanes, Refusal<'a>>
     requires { IsValid net.now }
-    ensures same_names { F.names files.new ≡ F.names files.old }
-    ensures same_bytes { F.bytes files.new ≡ F.bytes files.old }
-    ensures step { FilesPass F.Files.own files.old files.new (AfterLanes file.now net.now) result }
+    ensures step { FilesPass F.Files.own files.old files.new (LanesIn file.now net.now) (answer result) }
     ensures lanes { IfOk result (AreLanes (input_count net.now)) }
 {
     let text = read_text(alloc, files, file)?;
@@ -201,9 +184,7 @@ pub fn order_in<'a, F: Files>(
     machine: &Machine,
 ) -> Result<Order, Refusal<'a>>
     requires { IsValidMachine machine.now }
-    ensures same_names { F.names files.new ≡ F.names files.old }
-    ensures same_bytes { F.bytes files.new ≡ F.bytes files.old }
-    ensures step { FilesPass F.Files.own files.old files.new (AfterOrderFile file.now machine.now) result }
+    ensures step { FilesPass F.Files.own files.old files.new (OrderIn file.now machine.now) (answer result) }
     ensures valid { IfOk result (IsValidOrder (ports_of machine.now)) }
 {
     let text = read_text(alloc, files, file)?;
@@ -217,9 +198,7 @@ pub fn image_in<'a, F: Files>(
     files: &mut F,
     file: &'a [u8],
 ) -> Result<ImageFile, Refusal<'a>>
-    ensures same_names { F.names files.new ≡ F.names files.old }
-    ensures same_bytes { F.bytes files.new ≡ F.bytes files.old }
-    ensures step { FilesPass F.Files.own files.old files.new (AfterImageFile file.now) result }
+    ensures step { FilesPass F.Files.own files.old files.new (ImageFileIn file.now) (answer result) }
     ensures claims { IfOk result HasClaims }
 {
     let text = read_text(alloc, files, file)?;

@@ -3,6 +3,5 @@ pub mod EndingLemmas
 mod GateLemmas
 mod LaneLemmas
 pub mod lemmas
-mod PassingLemmas
 mod ShownLemmas
 mod TraceLemmas

@@ -1,4 +1,5 @@
 pub mod AnswerLemmas
-pub mod ChainLemmas
+pub mod FollowLemmas
+pub mod ReachLemmas
 pub mod TracedLemmas
 pub mod VisitedLemmas

@@ -1,13 +1,13 @@
--- The outcome of an output or a refusal, and what a call that comes to one says of its chain of checks.
-use Rattle.std.specs.Prelude.{◌≡◌, ℕ, List, Bool, Option, Result, Ok, Err}
-use Rattle.edge_io.specs.{declared.counts.FileCounts.FileCounts, declared.writing.WriteNo.WriteNo, Writing.joined}
+-- The outcome of an output or a refusal, and what a call that comes to one says of its steps.
+use Rattle.std.specs.Prelude.{◌≡◌, ℕ, List, Option, Result, Ok, Err}
+use Rattle.edge_io.specs.{declared.writing.WriteNo.WriteNo, Writing.joined}
 use Rattle.edge_io.specs.declared.files.Files as files
 use Rattle.yse_commands.specs.Outputs.{HasTaken, lanes_bytes, run_bytes, trace_bytes, wrote_in}
 use Rattle.yse_commands.specs.declared.output.Output.{Output}
 use Rattle.yse_commands.specs.declared.output.Output.TheVariants as output
 use Rattle.refusals.specs.declared.refusal.Refusal.{Refusal}
 use Rattle.call_steps.specs.Outcome.{Outcome, Turns, done, telling, unfinished}
-use Rattle.call_steps.specs.{Readings.Reading, Readings.AreReadings, Refused.refused_of}
+use Rattle.call_steps.specs.{Refused.refused_of, Steps.Call, Steps.FilesPass}
 
 -- an end with the output, which may be that of a run that was not finished
 abbrev pub ended_with : Output → Outcome
@@ -34,13 +34,6 @@ module _ {O : Type 0} (taken : O → Option (List ℕ)) (faults : O → ℕ) (be
   MayTake (Ok output) = HasTaken taken faults before after output
   MayTake (Err why) = after ≡ before
 
-module _ (names : Option (List ℕ → Bool)) (bytes : Option (List ℕ → List ℕ)) (old new : FileCounts) where
-  -- a call began some files, and comes to an outcome that a chain of checks expects of them
-  pub record Follows (outcome : Outcome) (Chain : List Reading → Outcome → Type 0) : Type 0 where
-    pub readings : List Reading
-    pub are : AreReadings names bytes old new outcome.status readings
-    pub expected : Chain readings outcome
-
--- a call of files comes to an outcome that a chain of checks expects of those that it began
-abbrev pub FilesFollow : {F : Type 0} → files.Ghosts F → F → F → Outcome → (List Reading → Outcome → Type 0) → Type 0
-FilesFollow tells old new = Follows (tells.names old) (tells.bytes old) (tells.counts old) (tells.counts new)
+-- a call of files comes to an outcome by those that it began
+abbrev pub FilesFollow : {F : Type 0} → files.Ghosts F → F → F → Outcome → Call → Type 0
+FilesFollow tells old new outcome C = FilesPass tells old new C (Err outcome)

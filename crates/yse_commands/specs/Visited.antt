@@ -5,7 +5,7 @@ use Rattle.crew_run.specs.Crews.{CanTell}
 use Rattle.edge_io.specs.Names.{OfTold}
 use Rattle.machine_text.specs.{declared.machine.Machine.Machine, Machines.default_machine, Machines.ports_of}
 use Rattle.machine_text.specs.Machines as machine_text
-use Rattle.call_steps.specs.{Outcome.Turns, Passing.placed}
+use Rattle.call_steps.specs.Outcome.{Turns}
 use Rattle.net_defs.specs.declared.{netlist.Netlist.Netlist, stimulus.Stimulus.Stimulus}
 use Rattle.cmd_words.specs.declared.command.{Command.Command, RunWords.RunWords}
 use Rattle.cmd_words.specs.declared.command.Command.TheVariants as command
@@ -61,7 +61,7 @@ module _ (bytes : Option (List ℕ → List ℕ)) where
     pub net : Netlist
     pub lanes : Lanes
     pub are : AreLanesOfFiles bytes words net lanes
-    pub turns : told ≡ Some (lanes_turns words (placed words machine net words.timing) lanes)
+    pub turns : told ≡ Some (lanes_turns words (record { homes = words.homes; machine = machine; timing = words.timing; net = net }) lanes)
 
   -- A run that is refused tells nothing. `large` writes after its visits, and may want memory after them. Other commands
   -- tell no gate anything.

@@ -4,17 +4,27 @@ use Rattle.std.specs.Option.{option_to_list}
 use Rattle.cmd_words.specs.declared.command.{Command.Command, RunWords.RunWords}
 use Rattle.cmd_words.specs.declared.command.Command.TheVariants as command
 
+-- the files of a design, of a design on a machine, and of one with its stimulus
+abbrev pub design_files : RunWords → List (List ℕ)
+design_files words = words.netlist ∷ option_to_list words.last
+
+abbrev pub machine_files : RunWords → List (List ℕ)
+machine_files words = option_to_list words.machine ++ design_files words
+
+abbrev pub ready_files : RunWords → List (List ℕ)
+ready_files words = machine_files words ++ (words.stimulus ∷ [])
+
 -- the files that a command reads, in the order in which it does
 abbrev pub files_of : Command → List (List ℕ)
-files_of (command.Run words) = option_to_list words.machine ++ (words.netlist ∷ (option_to_list words.last ++ (words.stimulus ∷ [])))
-files_of (command.Refer words) = words.netlist ∷ (option_to_list words.last ++ (words.stimulus ∷ []))
-files_of (command.Order words) = option_to_list words.machine ++ (words.netlist ∷ (option_to_list words.last ++ (words.stimulus ∷ option_to_list words.order)))
-files_of (command.Plan words) = option_to_list words.machine ++ (words.netlist ∷ option_to_list words.last)
-files_of (command.Compile words) = option_to_list words.machine ++ (words.netlist ∷ option_to_list words.last)
-files_of (command.Exec words image) = words.netlist ∷ (option_to_list words.last ++ (image ∷ words.stimulus ∷ []))
-files_of (command.Pack words) = option_to_list words.machine ++ (words.netlist ∷ (option_to_list words.last ++ (words.stimulus ∷ [])))
-files_of (command.Fault words) = words.netlist ∷ (option_to_list words.last ++ (option_to_list words.faults ++ (words.stimulus ∷ [])))
-files_of (command.Cover words) = words.netlist ∷ (option_to_list words.last ++ (words.stimulus ∷ []))
+files_of (command.Run words) = ready_files words
+files_of (command.Refer words) = design_files words ++ (words.stimulus ∷ [])
+files_of (command.Order words) = ready_files words ++ option_to_list words.order
+files_of (command.Plan words) = machine_files words
+files_of (command.Compile words) = machine_files words
+files_of (command.Exec words image) = design_files words ++ (image ∷ words.stimulus ∷ [])
+files_of (command.Pack words) = ready_files words
+files_of (command.Fault words) = design_files words ++ (option_to_list words.faults ++ (words.stimulus ∷ []))
+files_of (command.Cover words) = design_files words ++ (words.stimulus ∷ [])
 files_of (command.Show netlist) = netlist ∷ []
 files_of (command.Large gates cycles workers) = []
 files_of (command.Help topic) = []

@@ -1,2 +1,3 @@
 pub mod Endings
+pub mod Ends
 pub mod Printed

@@ -5,8 +5,8 @@ ghost use Rattle.edge_io.specs.Writing.{joined};
 ghost use Rattle.net_defs.specs.{Loops.AreRanks, Valid.IsValid, Valid.IsValidStimulus, Valid.IsValidTiming};
 ghost use Rattle.cmd_words.specs.Forms.{IsRunInRange};
 ghost use Rattle.yse_commands.specs.{Outputs.CanWrite, Refusals.FilesFollow, Refusals.outcome_of};
-ghost use Rattle.yse_commands.specs.commands.Cover.{ExpectedCover, IsCoverage, WritesCoverage};
-ghost use Rattle.call_steps.specs.Files.{AfterStimulus};
+ghost use Rattle.yse_commands.specs.commands.Cover.{Covers, IsCoverage};
+ghost use Rattle.yse_commands.specs.code.Ends.{WritesCoverage};
 
 use crate::output::Output;
 use call_steps::{Timed, WithRanks, design_from, ranked, stimulus_in};
@@ -25,9 +25,7 @@ pub fn cover<'a, F: Files>(
     words: &'a RunWords,
 ) -> Result<Output, Refusal<'a>>
     requires { IsRunInRange words.now }
-    ensures same_names { F.names files.new ≡ F.names files.old }
-    ensures same_bytes { F.bytes files.new ≡ F.bytes files.old }
-    ensures expected { FilesFollow F.Files.own files.old files.new (outcome_of None result) (ExpectedCover words.now) }
+    ensures expected { FilesFollow F.Files.own files.old files.new (outcome_of None result) (Covers words.now) }
     ensures writable { IfOk result CanWrite }
 {
     let Timed { net, timing } = design_from(alloc, files, words)?;
@@ -46,10 +44,7 @@ fn coverage_of<'a, F: Files>(
     requires timing { IsValidTiming timing.now }
     requires valid { IsValid design.now.net }
     requires ranks { AreRanks design.now.net timing.now design.now.ranks }
-    ensures same_names { F.names files.new ≡ F.names files.old }
-    ensures same_bytes { F.bytes files.new ≡ F.bytes files.old }
-    ensures expected { FilesFollow F.Files.own files.old files.new (outcome_of None result)
-        (AfterStimulus words.now.stimulus design.now.net (WritesCoverage design.now.net timing.now)) }
+    ensures expected { FilesFollow F.Files.own files.old files.new (outcome_of None result) (WritesCoverage words.now design.now.net timing.now) }
     ensures writable { IfOk result CanWrite }
 {
     let stimulus = stimulus_in(alloc, files, words.stimulus.as_bytes(), &design.net)?;

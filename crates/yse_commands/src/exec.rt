@@ -4,7 +4,7 @@ ghost use Rattle.std.specs.Prelude.{◌≡◌, ◌≤◌, IfOk, length};
 ghost use Rattle.cmd_words.specs.Forms.{IsRunInRange};
 ghost use Rattle.limits.specs.declared.TheConstants.{MAX_WORKERS};
 ghost use Rattle.machine_run.specs.Visits.{AreInPlace};
-ghost use Rattle.yse_commands.specs.{Outputs.CanEnd, Refusals.MayTake, Telling.Comes, Visited.AllCanTell, commands.Exec.ExpectedExec};
+ghost use Rattle.yse_commands.specs.{Outputs.CanEnd, Refusals.MayTake, Telling.Comes, Visited.AllCanTell, commands.Exec.Executes};
 
 use crate::output::Output;
 use crate::steps::by_workers;
@@ -32,10 +32,7 @@ pub fn exec<'a, R: Threads + Wait + Sync, F: Files, O: Sink, G: Gate + Send>(
     requires range { IsRunInRange words.now }
     requires gates { MAX_WORKERS ≤ length gates.old }
     requires tell { AllCanTell G.Gate.own gates.old }
-    ensures same_names { F.names files.new ≡ F.names files.old }
-    ensures same_bytes { F.bytes files.new ≡ F.bytes files.old }
-    ensures comes { Comes G.Gate.own (F.names files.old) (F.bytes files.old) (F.counts files.old) (F.counts files.new) gates.old gates.new
-        result (ExpectedExec words.now image.now) }
+    ensures comes { Comes G.Gate.own F.Files.own files.old files.new gates.old gates.new result (Executes words.now image.now) }
     ensures writable { IfOk result CanEnd }
     ensures written { MayTake O.taken O.faults out.old out.new result }
     ensures in_place { AreInPlace gates.old gates.new }

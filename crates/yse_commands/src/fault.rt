@@ -5,9 +5,9 @@ ghost use Rattle.edge_io.specs.Writing.{joined};
 ghost use Rattle.net_defs.specs.Valid.{IsFault, IsValid, IsValidStimulus, IsValidTiming};
 ghost use Rattle.net_defs.specs.Loops.{AreRanks};
 ghost use Rattle.cmd_words.specs.Forms.{IsRunInRange};
-ghost use Rattle.yse_commands.specs.commands.Fault.{AfterListed, ExpectedFault, IsFaultList, listed_or_all};
+ghost use Rattle.yse_commands.specs.commands.Fault.{Faults, IsFaultList, listed_or_all};
 ghost use Rattle.yse_commands.specs.{Outputs.CanWrite, Refusals.FilesFollow, Refusals.outcome_of};
-ghost use Rattle.call_steps.specs.{Checks.After, Checks.HasFewSignals, Files.AfterFaultList};
+ghost use Rattle.yse_commands.specs.code.Ends.{FaultsIn, ListsFaults};
 
 use crate::output::Output;
 use call_steps::{Timed, WithRanks, design_from, faults_from, few_signals, ranked, stimulus_in};
@@ -29,9 +29,7 @@ pub fn fault<'a, R: Threads + Sync, F: Files>(
     words: &'a RunWords,
 ) -> Result<Output, Refusal<'a>>
     requires range { IsRunInRange words.now }
-    ensures same_names { F.names files.new ≡ F.names files.old }
-    ensures same_bytes { F.bytes files.new ≡ F.bytes files.old }
-    ensures expected { FilesFollow F.Files.own files.old files.new (outcome_of None result) (ExpectedFault words.now) }
+    ensures expected { FilesFollow F.Files.own files.old files.new (outcome_of None result) (Faults words.now) }
     ensures writable { IfOk result CanWrite }
 {
     let Timed { net, timing } = design_from(alloc, files, words)?;
@@ -52,10 +50,7 @@ fn faults_of<'a, R: Threads + Sync, F: Files>(
     requires timing { IsValidTiming timing.now }
     requires valid { IsValid design.now.net }
     requires ranks { AreRanks design.now.net timing.now design.now.ranks }
-    ensures same_names { F.names files.new ≡ F.names files.old }
-    ensures same_bytes { F.bytes files.new ≡ F.bytes files.old }
-    ensures expected { FilesFollow F.Files.own files.old files.new (outcome_of None result) (After (HasFewSignals design.now.net) (λ few.
-        AfterFaultList words.now.faults design.now.net (AfterListed words.now.stimulus design.now.net timing.now))) }
+    ensures expected { FilesFollow F.Files.own files.old files.new (outcome_of None result) (FaultsIn words.now design.now.net timing.now) }
     ensures writable { IfOk result CanWrite }
 {
     few_signals(&design.net)?;
@@ -78,9 +73,7 @@ fn listed_of<'a, R: Threads + Sync, F: Files>(
     requires valid { IsValid design.now.net }
     requires ranks { AreRanks design.now.net timing.now design.now.ranks }
     requires listed { IfSome listed (All (IsFault design.now.net)) }
-    ensures same_names { F.names files.new ≡ F.names files.old }
-    ensures same_bytes { F.bytes files.new ≡ F.bytes files.old }
-    ensures expected { FilesFollow F.Files.own files.old files.new (outcome_of None result) (AfterListed words.now.stimulus design.now.net timing.now listed) }
+    ensures expected { FilesFollow F.Files.own files.old files.new (outcome_of None result) (ListsFaults words.now design.now.net timing.now listed) }
     ensures writable { IfOk result CanWrite }
 {
     let stimulus = stimulus_in(alloc, files, words.stimulus.as_bytes(), &design.net)?;

@@ -1,11 +1,11 @@
 //! `large`: the summary of a run of a generated design.
 
-ghost use Rattle.std.specs.Prelude.{[], ◌≤◌, IfOk, Option, length};
+ghost use Rattle.std.specs.Prelude.{[], ◌≤◌, Err, IfOk, Option, length};
 ghost use Rattle.limits.specs.declared.TheConstants.{MAX_LARGE_CYCLES, MAX_LARGE_GATES, MAX_WORKERS};
 ghost use Rattle.machine_run.specs.Visits.{AreInPlace};
 ghost use Rattle.call_steps.specs.Outcome.{Turns};
 ghost use Rattle.yse_commands.specs.{Outputs.CanWrite, Refusals.outcome_of, Refusals.written_by, Told.TellsTurns, Visited.AllCanTell};
-ghost use Rattle.yse_commands.specs.commands.Large.{ExpectedLarge};
+ghost use Rattle.yse_commands.specs.commands.Large.{RunsLarge};
 
 use crate::output::Output;
 use crew_run::Gate;
@@ -32,7 +32,7 @@ pub fn large<'a, R: Threads + Wait + Sync, G: Gate + Send>(
     requires few_workers { workers ≤ MAX_WORKERS }
     requires gates { MAX_WORKERS ≤ length gates.old }
     requires tell { AllCanTell G.Gate.own gates.old }
-    ensures comes { (told : Option Turns) × ExpectedLarge count cycles workers [] (outcome_of told result)
+    ensures comes { (told : Option Turns) × RunsLarge count cycles workers [] (Err (outcome_of told result))
         × TellsTurns G.Gate.own gates.old gates.new (written_by result) told }
     ensures writable { IfOk result CanWrite }
     ensures in_place { AreInPlace gates.old gates.new }

@@ -2,7 +2,7 @@
 
 ghost use Rattle.std.specs.Prelude.{◌≡◌, IfOk, None};
 ghost use Rattle.cmd_words.specs.Forms.{IsRunInRange};
-ghost use Rattle.yse_commands.specs.{Outputs.CanWrite, Refusals.FilesFollow, Refusals.outcome_of, commands.Layout.ExpectedLayout, commands.Layout.IsSheetOf};
+ghost use Rattle.yse_commands.specs.{Outputs.CanWrite, Refusals.FilesFollow, Refusals.outcome_of, commands.Layout.LaysOut, commands.Layout.IsSheetOf};
 
 use crate::compile::image_text_of;
 use crate::output::Output;
@@ -31,9 +31,7 @@ pub fn lay_out<'a, F: Files>(
     sheet: Sheet,
 ) -> Result<Output, Refusal<'a>>
     requires { IsRunInRange words.now }
-    ensures same_names { F.names files.new ≡ F.names files.old }
-    ensures same_bytes { F.bytes files.new ≡ F.bytes files.old }
-    ensures expected { FilesFollow F.Files.own files.old files.new (outcome_of None result) (ExpectedLayout sheet words.now) }
+    ensures expected { FilesFollow F.Files.own files.old files.new (outcome_of None result) (LaysOut sheet words.now) }
     ensures writable { IfOk result CanWrite }
 {
     let planned = planned_on_machine(alloc, files, words)?;

@@ -1,4 +1,4 @@
-//! The commands: a function for each, which follows its chain of checks and answers its output or its refusal, one
+//! The commands: a function for each, which makes the steps of its call, and answers its output or its refusal, one
 //! module for each.
 //!
 //! ```

@@ -2,8 +2,7 @@
 
 ghost use Rattle.std.specs.Prelude.{◌≡◌, IfOk, None};
 ghost use Rattle.cmd_words.specs.Forms.{IsRunInRange};
-ghost use Rattle.yse_commands.specs.{Outputs.CanWrite, Refusals.FilesFollow, Refusals.outcome_of, commands.Run.EndsAfter, commands.Run.ExpectedOrder};
-ghost use Rattle.call_steps.specs.Passing.{AfterOrderFile};
+ghost use Rattle.yse_commands.specs.{Outputs.CanWrite, Refusals.FilesFollow, Refusals.outcome_of, commands.Run.Orders, code.Ends.EndsInOrderOf};
 
 use crate::output::Output;
 use crate::steps::{by_order, by_rounds};
@@ -23,9 +22,7 @@ pub fn order<'a, F: Files>(
     words: &'a RunWords,
 ) -> Result<Output, Refusal<'a>>
     requires { IsRunInRange words.now }
-    ensures same_names { F.names files.new ≡ F.names files.old }
-    ensures same_bytes { F.bytes files.new ≡ F.bytes files.old }
-    ensures expected { FilesFollow F.Files.own files.old files.new (outcome_of None result) (ExpectedOrder words.now) }
+    ensures expected { FilesFollow F.Files.own files.old files.new (outcome_of None result) (Orders words.now) }
     ensures writable { IfOk result CanWrite }
 {
     let ready = ready_on_machine(alloc, files, words)?;
@@ -47,12 +44,8 @@ fn in_order<'a, F: Files>(
     file: &'a [u8],
     ready: Ready,
 ) -> Result<Output, Refusal<'a>>
-    requires range { IsRunInRange words.now }
-    requires homes { ready.placed.homes ≡ words.now.homes }
-    ensures same_names { F.names files.new ≡ F.names files.old }
-    ensures same_bytes { F.bytes files.new ≡ F.bytes files.old }
-    ensures expected { FilesFollow F.Files.own files.old files.new (outcome_of None result)
-        (AfterOrderFile file.now ready.placed.machine (EndsAfter words.now ready.placed ready.stimulus)) }
+    requires { IsRunInRange words.now }
+    ensures expected { FilesFollow F.Files.own files.old files.new (outcome_of None result) (EndsInOrderOf file.now words.now ready) }
     ensures writable { IfOk result CanWrite }
 {
     let order = order_for(alloc, files, file, &ready)?;

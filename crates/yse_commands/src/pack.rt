@@ -8,10 +8,12 @@ ghost use Rattle.limits.specs.declared.TheConstants.{MAX_WORKERS};
 ghost use Rattle.machine_run.specs.Visits.{AreInPlace};
 ghost use Rattle.stim_text.specs.Lanes.{AreLanes};
 ghost use Rattle.yse_commands.specs.{Outputs.CanEnd, Outputs.lanes_bytes, Refusals.MayTake, Telling.Comes, Told.TellsTurns, Told.lanes_turns};
-ghost use Rattle.yse_commands.specs.{Visited.AllCanTell, commands.Pack.AreLaneTraces, commands.Pack.ExpectedPack};
+ghost use Rattle.yse_commands.specs.{Visited.AllCanTell, commands.Pack.AreLaneTraces, commands.Pack.Packs};
 
 use crate::output::{Output, WrittenLanes};
-use call_steps::{OnMachine, Runnable, design_on_machine, few_bits, few_lane_cells, lanes_for};
+use call_steps::{
+    OnMachine, Runnable, few_bits, few_lane_cells, lanes_for, on_machine, planned_on_machine,
+};
 use cmd_words::RunWords;
 use crew_run::Gate;
 use edge_io::{Files, Sink};
@@ -37,15 +39,13 @@ pub fn pack<'a, R: Threads + Wait + Sync, F: Files, O: Sink, G: Gate + Send>(
     requires range { IsRunInRange words.now }
     requires gates { MAX_WORKERS ≤ length gates.old }
     requires tell { AllCanTell G.Gate.own gates.old }
-    ensures same_names { F.names files.new ≡ F.names files.old }
-    ensures same_bytes { F.bytes files.new ≡ F.bytes files.old }
-    ensures comes { Comes G.Gate.own (F.names files.old) (F.bytes files.old) (F.counts files.old) (F.counts files.new) gates.old gates.new
-        result (ExpectedPack words.now) }
+    ensures comes { Comes G.Gate.own F.Files.own files.old files.new gates.old gates.new result (Packs words.now) }
     ensures writable { IfOk result CanEnd }
     ensures written { MayTake O.taken O.faults out.old out.new result }
     ensures in_place { AreInPlace gates.old gates.new }
 {
-    let design = design_on_machine(alloc, files, words)?;
+    let planned = planned_on_machine(alloc, files, words)?;
+    let design = on_machine(planned);
     few_bits(&design)?;
     let lanes = lanes_for(alloc, files, words, &design)?;
     few_lane_cells(&design, &lanes)?;

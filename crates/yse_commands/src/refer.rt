@@ -1,10 +1,11 @@
 //! `refer`: the trace of the reference simulation.
 
-ghost use Rattle.std.specs.Prelude.{[], ◌≡◌, IfOk, None};
+ghost use Rattle.std.specs.Prelude.{[], ◌≡◌, Err, IfOk, None};
 ghost use Rattle.net_defs.specs.{Loops.IsOrder, Valid.IsValid, Valid.IsValidStimulus, Valid.IsValidTiming};
 ghost use Rattle.cmd_words.specs.Forms.{IsRunInRange};
 ghost use Rattle.yse_commands.specs.{Outputs.CanWrite, Outputs.CanPrint, code.Printed.ArePrinted, Refusals.FilesFollow, Refusals.outcome_of};
-ghost use Rattle.yse_commands.specs.commands.Run.{ExpectedRefer, KeepsTrace};
+ghost use Rattle.yse_commands.specs.commands.Run.{Refers};
+ghost use Rattle.yse_commands.specs.code.Ends.{KeepsTrace};
 
 use crate::output::{Output, Trace};
 use call_steps::{Design, Timed, design_from, few_cells, ordered, stimulus_in};
@@ -24,9 +25,7 @@ pub fn refer<'a, F: Files>(
     words: &'a RunWords,
 ) -> Result<Output, Refusal<'a>>
     requires { IsRunInRange words.now }
-    ensures same_names { F.names files.new ≡ F.names files.old }
-    ensures same_bytes { F.bytes files.new ≡ F.bytes files.old }
-    ensures expected { FilesFollow F.Files.own files.old files.new (outcome_of None result) (ExpectedRefer words.now) }
+    ensures expected { FilesFollow F.Files.own files.old files.new (outcome_of None result) (Refers words.now) }
     ensures writable { IfOk result CanWrite }
 {
     let Timed { net, timing } = design_from(alloc, files, words)?;
@@ -46,7 +45,7 @@ fn kept<'a>(
     requires valid { IsValid design.net }
     requires order { IsOrder design.net timing.now design.order }
     requires stimulus { IsValidStimulus stimulus.now }
-    ensures expected { KeepsTrace design.net timing.now stimulus.now [] (outcome_of None result) }
+    ensures expected { KeepsTrace design.net timing.now stimulus.now [] (Err (outcome_of None result)) }
     ensures writable { IfOk result CanWrite }
 {
     few_cells(&design.net, stimulus)?;

@@ -1,7 +1,7 @@
 //! `show`: the canonical text of a netlist.
 
 ghost use Rattle.std.specs.Prelude.{◌≡◌, IfOk, None};
-ghost use Rattle.yse_commands.specs.{Outputs.CanWrite, Refusals.FilesFollow, Refusals.outcome_of, commands.Show.ExpectedShow};
+ghost use Rattle.yse_commands.specs.{Outputs.CanWrite, Refusals.FilesFollow, Refusals.outcome_of, commands.Show.Shows};
 
 use crate::output::Output;
 use call_steps::netlist_in;
@@ -16,9 +16,7 @@ pub fn show<'a, F: Files>(
     files: &mut F,
     file: &'a [u8],
 ) -> Result<Output, Refusal<'a>>
-    ensures same_names { F.names files.new ≡ F.names files.old }
-    ensures same_bytes { F.bytes files.new ≡ F.bytes files.old }
-    ensures expected { FilesFollow F.Files.own files.old files.new (outcome_of None result) (ExpectedShow file.now) }
+    ensures expected { FilesFollow F.Files.own files.old files.new (outcome_of None result) (Shows file.now) }
     ensures writable { IfOk result CanWrite }
 {
     let net = netlist_in(alloc, files, file)?;

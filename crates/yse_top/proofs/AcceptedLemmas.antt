@@ -9,11 +9,10 @@ use Rattle.image_file.specs.{Files.image_text, Ranges.IsInRanges, Ranges.Reads, 
 use Rattle.text_lines.specs.Answers.{IsReader}
 use Rattle.refusals.specs.declared.status.Status.TheVariants as status
 use Rattle.refusals.specs.Lines.{match_line}
-use Rattle.call_steps.specs.{Checks.After, Outcome.Outcome, Outcome.refusal, Outcome.out_of_memory, Readings.Reading, Images.IsAccepted, Images.IsImageFileOf}
-use Rattle.call_steps.specs.Files.{AfterImage, AfterMatch}
-use Rattle.yse_commands.specs.commands.Exec.{IsTaken, RunsImage}
-use Rattle.yse_top.proofs.ProperLemmas.{IsCheck, IsOfText, alike, short_passes}
-use Rattle.yse_commands.proofs.lemmas.TracedLemmas.{whole_text}
+use Rattle.call_steps.specs.{Outcome.Outcome, Outcome.refusal, Images.IsAccepted, Images.IsImageFileOf, Steps.◌>>◌, Steps.Checks, Steps.Gives}
+use Rattle.yse_commands.proofs.lemmas.ReachLemmas.{all_told}
+use Rattle.yse_top.specs.Sequel.{IsTaken}
+use Rattle.yse_top.proofs.{AgainLemmas.again_checks, AgainLemmas.again_file, AgainLemmas.again_gives, AgainLemmas.again_then, AgainLemmas.held_passes, OneLemmas.alike, ProperLemmas.IsCheck, ProperLemmas.IsOfText}
 
 -- ---- one answer of the check
 
@@ -64,26 +63,18 @@ module _ (net : Netlist) (timing : Timing) (nodes : NodeNet) (file : ImageFile) 
   reads : Reads (image_text file) file
   reads = record { is = refl; ranges = ranges }
 
-  -- no answer of the check but that it is accepted
-  goes_on : (Next : Image → List Reading → Outcome → Type 0) (readings : List Reading) (outcome : Outcome) → AfterMatch net timing file Next readings outcome → Next file.image readings outcome ⊎ (outcome ≡ out_of_memory)
-  goes_on Next readings outcome (inl (passed, accepted, next)) = inl next
-  goes_on Next readings outcome (inr (none, inl refused)) =
-      absurd (never_both file timing nodes once refused.2 refused.3 says (subst (λ n. Says file n timing (Err refused.2)) (same refused.0 nodes refused.1 items) refused.4))
-  goes_on Next readings outcome (inr (none, inr memory)) = inr memory
+  never_refused : (o : Outcome) → IsAccepted net timing file (Err o) → ⊥
+  never_refused o refused =
+      never_both file timing nodes once refused.2 refused.3 says (subst (λ n. Says file n timing (Err refused.2)) (same refused.0 nodes refused.1 items) refused.4)
 
-  -- no answer of the reader but the file
-  reads_on : (Next : Image → List Reading → Outcome → Type 0) (readings : List Reading) (outcome : Outcome) → After (IsImageFileOf (image_text file)) (λ other. AfterMatch net timing other Next) readings outcome → Next file.image readings outcome ⊎ (outcome ≡ out_of_memory)
-  reads_on Next readings outcome (inl (other, is, next)) =
-      goes_on Next readings outcome (subst (λ (f : ImageFile). AfterMatch net timing f Next readings outcome) (reader.one (image_text file) other file is reads) next)
-  reads_on Next readings outcome (inr (none, inl refused)) = absurd (clash (reader.no_fault (image_text file) file reads) refused.1) where
-    clash : {why : ImageNo} → first_fault (image_text file) ≡ None → first_fault (image_text file) ≡ Some why → ⊥
-    clash e f = cc
-  reads_on Next readings outcome (inr (none, inr memory)) = inr memory
+  never_faulty : (o : Outcome) → IsImageFileOf (image_text file) (Err o) → ⊥
+  never_faulty o refused = clash (reader.no_fault (image_text file) file reads) refused.1
+    where
+      clash : {why : ImageNo} → first_fault (image_text file) ≡ None → first_fault (image_text file) ≡ Some why → ⊥
+      clash e f = cc
 
   pub image_taken : IsTaken net timing file
-  unfolding AfterImage
-  image_taken words name readings outcome short (is, inl (text, whole, next)) =
-      let Next : Image → List Reading → Outcome → Type 0 = RunsImage words net timing in
-      reads_on Next readings outcome (subst (λ (t : List ℕ). After (IsImageFileOf t) (λ other. AfterMatch net timing other Next) readings outcome) (sym (whole_text name (image_text file) text whole)) next)
-  image_taken words name readings outcome short (is, inr (none, inl refused)) = absurd (short_passes name (image_text file) outcome short refused)
-  image_taken words name readings outcome short (is, inr (none, inr memory)) = inr memory
+  image_taken held name readings result is short are step =
+      (again_then held {Next = λ found. Checks (IsAccepted net timing found) >> Gives found.image} (again_file held name IsImageFileOf (image_text file) file (held_passes name (held name) (image_text file) is short) (λ other is_too. reader.one (image_text file) other file is_too reads) never_faulty)
+      (again_then held {Next = λ passed. Gives file.image} (again_checks held (IsAccepted net timing file) tt (λ passed accepted. refl) never_refused)
+      (again_gives held file.image))).again readings result (all_told (Some held) readings are) step

@@ -1,17 +1,19 @@
 -- What the outcome that a call came to says of its status, its output, its gates and the counts.
-use Rattle.std.proofs.Common.{◌≡◌, ◌≢◌, ◌∙◌, ◌↔◌, ◌⊎◌, sym, ap, subst, inl, inr, ℕ, Bool, List, Option, Some, None, take}
+use Rattle.std.proofs.Common.{◌≡◌, ◌≢◌, ◌∙◌, ◌↔◌, ◌⊎◌, sym, ap, subst, inl, inr, ℕ, List, Option, Some, None, Err, take}
 use Rattle.std.specs.Io.KnownBytes.{append_known}
 use Rattle.crew_run.specs.declared.gate.Gate as gate
-use Rattle.edge_io.specs.{Counts.Rose, Writing.TakesLine, declared.counts.FileCounts.FileCounts}
+use Rattle.edge_io.specs.{Counts.Rose, Writing.TakesLine}
+use Rattle.edge_io.specs.declared.files.Files as files
 use Rattle.cmd_words.specs.{Asked.asked, declared.command.Command.Command}
 use Rattle.cmd_words.specs.declared.command.Command.TheVariants as command
 use Rattle.refusals.specs.{declared.status.Status.Status, Lines.write_fault_line}
 use Rattle.refusals.specs.declared.status.Status.TheVariants as status
 use Rattle.yse_top.specs.{code.Came.CameTo, Law.IsProper, Law.TellsWords}
 use Rattle.yse_commands.specs.Ends.{AreToldBy, EndsAs, IsDoneOrMemory, KeepsTaken, MayWrite}
-use Rattle.yse_commands.specs.{Expected.Expected, Expected.ExpectedOf, Traced.IsOutputOfFiles, Visited.AreTold, Visited.AreTurnsOf, Visited.TellsGates}
+use Rattle.yse_commands.specs.{Expected.CallFor, Expected.CallOf, Expected.Expected, Traced.IsOutputOfFiles, Visited.AreTold, Visited.AreTurnsOf, Visited.TellsGates}
 use Rattle.call_steps.specs.{Outcome.Outcome, Outcome.Turns, Readings.Reading}
-use Rattle.yse_commands.proofs.lemmas.{TracedLemmas.AreAsTold, TracedLemmas.command_told, TracedLemmas.command_traced, VisitedLemmas.whole_writes}
+use Rattle.yse_commands.proofs.lemmas.{ReachLemmas.AreAsTold, TracedLemmas.command_told, TracedLemmas.command_traced, VisitedLemmas.whole_writes}
+use Rattle.yse_top.proofs.CallLemmas.{asked_came}
 use Rattle.yse_top.proofs.EndLemmas.{absent_kept, completes, fault_rose}
 
 -- what may be written is no such status
@@ -23,13 +25,14 @@ no_fault e = cc
 
 -- the chain of the command that the words ask for came to this, or a refusal that tells no gate anything
 abbrev Chained : List (List ℕ) → List Reading → Outcome → Type 0
-Chained words readings o = ((command : Command) × (asked words ≡ Some command) × ExpectedOf command readings o) ⊎ ((o.told ≡ None) × (MayWrite o.status → ⊥))
+Chained words readings o = ((command : Command) × (asked words ≡ Some command) × CallOf command readings (Err o)) ⊎ ((o.told ≡ None) × (MayWrite o.status → ⊥))
 
-chain_came : TellsWords → (words : List (List ℕ)) (readings : List Reading) (o : Outcome) → Expected words readings o → Chained words readings o
-unfolding Expected
-chain_came laws words readings o (inl (command, has, next)) = inl (command, (laws.forms words command).1 has, next)
-chain_came laws words readings o (inr (none, inl refused)) = inr (ap (λ (p : Outcome). p.told) refused.1, subst MayWrite (ap (λ (p : Outcome). p.status) refused.1))
-chain_came laws words readings o (inr (none, inr memory)) = inr (ap (λ (p : Outcome). p.told) memory, subst MayWrite (ap (λ (p : Outcome). p.status) memory))
+chain_came : TellsWords → (words : List (List ℕ)) (readings : List Reading) (o : Outcome) → CallFor words readings (Err o) → Chained words readings o
+chain_came laws words readings o came = elim (asked_came words readings o came) [
+  | inl (command, has, next) ↦ inl (command, (laws.forms words command).1 has, next)
+  | inr (inl refused) ↦ inr (ap (λ (p : Outcome). p.told) refused.1, subst MayWrite (ap (λ (p : Outcome). p.status) refused.1))
+  | inr (inr memory) ↦ inr (ap (λ (p : Outcome). p.told) memory, subst MayWrite (ap (λ (p : Outcome). p.status) memory))
+]
 
 -- ---- the turns that a call told of
 
@@ -53,34 +56,34 @@ module _ (bytes : Option (List ℕ → List ℕ)) (told : Option Turns) where
     turns_alike (Some (command.Large gates cycles workers)) turns = told_alike turns
     turns_alike _ turns = turns
 
-module _ {G : Type 0} (p : gate.Ghosts G) (gates gates' : List (Option G)) (names : Option (List ℕ → Bool)) (bytes : Option (List ℕ → List ℕ)) (counts counts' : FileCounts) (words : List (List ℕ)) (result : Status) (old new : Option (List ℕ)) (faults_old faults_new : ℕ) (TakesLine : List ℕ → Type 0) where
+module _ {F G : Type 0} (p : gate.Ghosts G) (gates gates' : List (Option G)) (tells : files.Ghosts F) (store store' : F) (words : List (List ℕ)) (result : Status) (old new : Option (List ℕ)) (faults_old faults_new : ℕ) (TakesLine : List ℕ → Type 0) where
   abbrev Came : Type 0
-  Came = CameTo p gates gates' names bytes counts counts' (Expected words) result old new faults_old faults_new TakesLine
+  Came = CameTo p gates gates' tells store store' (CallFor words) result old new faults_old faults_new TakesLine
 
   module _ (laws : TellsWords) (came : Came) where
-    read : AreAsTold bytes came.readings
-    read place reading at = (came.are.each place reading at).whole
+    read : AreAsTold (tells.bytes store) came.follows.readings
+    read place reading at = (came.follows.are.each place reading at).whole
 
     -- the output is what the files say
-    pub trace_came : result ≡ status.Done → (output : List ℕ) × (new ≡ append_known old output) × IsOutputOfFiles bytes output (asked words)
+    pub trace_came : result ≡ status.Done → (output : List ℕ) × (new ≡ append_known old output) × IsOutputOfFiles (tells.bytes store) output (asked words)
     trace_came is = elim came.ends.ends [
-      | inl told ↦ (came.outcome.output, told.1, by (chain_came laws words came.readings came.outcome came.expected) (sym told.0 ∙ is))
+      | inl told ↦ (came.outcome.output, told.1, by (chain_came laws words came.follows.readings came.outcome came.follows.step) (sym told.0 ∙ is))
       | inr cut ↦ absurd (writes_no_fault (sym cut.0 ∙ is))
     ]
       where
         writes_no_fault : status.WriteFault ≡ status.Done → ⊥
         writes_no_fault e = cc
 
-        by : Chained words came.readings came.outcome → came.outcome.status ≡ status.Done → IsOutputOfFiles bytes came.outcome.output (asked words)
+        by : Chained words came.follows.readings came.outcome → came.outcome.status ≡ status.Done → IsOutputOfFiles (tells.bytes store) came.outcome.output (asked words)
         by (inl (command, asks, chain)) well =
-            subst (IsOutputOfFiles bytes came.outcome.output) (sym asks) (command_traced bytes came.outcome (λ none. subst MayWrite (sym well) tt) command came.readings well read chain)
+            subst (IsOutputOfFiles (tells.bytes store) came.outcome.output) (sym asks) (command_traced (tells.bytes store) came.outcome came.follows.readings read command well chain)
         by (inr refused) well = absurd (refused.1 (subst MayWrite (sym well) tt))
 
     -- the gates were told of the turns that the files say
-    pub visits_came : TellsGates p bytes gates gates' result (asked words)
+    pub visits_came : TellsGates p (tells.bytes store) gates gates' result (asked words)
     visits_came = record {
       told = came.outcome.told;
-      are = turns_alike bytes came.outcome.told came.outcome.status result to back (asked words) (by (chain_came laws words came.readings came.outcome came.expected));
+      are = turns_alike (tells.bytes store) came.outcome.told came.outcome.status result to back (asked words) (by (chain_came laws words came.follows.readings came.outcome came.follows.step));
       visits = came.told;
     }
       where
@@ -96,45 +99,49 @@ module _ {G : Type 0} (p : gate.Ghosts G) (gates gates' : List (Option G)) (name
           | inr cut ↦ subst MayWrite (sym cut.0) tt
         ]
 
-        by : Chained words came.readings came.outcome → AreTurnsOf bytes came.outcome.status (asked words) came.outcome.told
-        by (inl (command, asks, chain)) = subst (λ (c : Option Command). AreTurnsOf bytes came.outcome.status c came.outcome.told) (sym asks) (command_told bytes came.outcome command came.readings read chain)
-        by (inr refused) = untold bytes came.outcome.told came.outcome.status refused.1 refused.0 (asked words)
+        by : Chained words came.follows.readings came.outcome → AreTurnsOf (tells.bytes store) came.outcome.status (asked words) came.outcome.told
+        by (inl (command, asks, chain)) = subst (λ (c : Option Command). AreTurnsOf (tells.bytes store) came.outcome.status c came.outcome.told) (sym asks) (command_told (tells.bytes store) came.outcome came.follows.readings read command chain)
+        by (inr refused) = untold (tells.bytes store) came.outcome.told came.outcome.status refused.1 refused.0 (asked words)
+
+  refused_words : TellsWords → (came : Came) → came.outcome.status ≢ status.Memory → (came.outcome.status ≡ status.Words) ↔ (asked words ≡ None)
+  unfolding Expected
+  refused_words laws came = laws.refused words came.follows.readings came.outcome came.follows.step
 
   -- words are refused exactly where they are of no form
   pub words_came : TellsWords → Came → result ≢ status.Memory → (result ≡ status.Words) ↔ (asked words ≡ None)
   words_came laws came other = elim came.ends.ends [
-    | inl told ↦ subst (λ s. (s ≡ status.Words) ↔ (asked words ≡ None)) (sym told.0) (laws.refused words came.readings came.outcome came.expected (λ is. other (told.0 ∙ is)))
+    | inl told ↦ subst (λ s. (s ≡ status.Words) ↔ (asked words ≡ None)) (sym told.0) (refused_words laws came (λ is. other (told.0 ∙ is)))
     | inr cut ↦ by_cut cut.0
   ]
     where
       by_cut : result ≡ status.WriteFault → (result ≡ status.Words) ↔ (asked words ≡ None)
       by_cut is =
           let may = whole_writes came.outcome.status (came.ends.writes is) in
-          let refused = laws.refused words came.readings came.outcome came.expected (writes_other came.outcome.status status.Memory (λ m. m) may) in
+          let refused = refused_words laws came (writes_other came.outcome.status status.Memory (λ m. m) may) in
           (λ w. absurd (writes_other result status.Words (λ m. m) (subst MayWrite (sym is) tt) w), λ none. absurd (writes_other came.outcome.status status.Words (λ m. m) may (refused.1 none)))
 
-  module _ (files : List (List ℕ)) (proper : IsProper files (Expected words)) where
-    pub fault_came : Came → result ≡ status.ReadFault → Rose counts.faults counts'.faults
+  module _ (files : List (List ℕ)) (proper : IsProper files (λ readings o. CallFor words readings (Err o))) where
+    pub fault_came : Came → result ≡ status.ReadFault → Rose (tells.counts store).faults (tells.counts store').faults
     fault_came came is = elim came.ends.ends [
-      | inl told ↦ fault_rose names bytes counts counts' files (Expected words) proper came.readings came.outcome came.are came.expected (sym told.0 ∙ is)
+      | inl told ↦ fault_rose (tells.names store) (tells.bytes store) (tells.counts store) (tells.counts store') files (λ readings o. CallFor words readings (Err o)) proper came.follows.readings came.outcome came.follows.are came.follows.step (sym told.0 ∙ is)
       | inr cut ↦ absurd (no_fault (sym cut.0 ∙ is))
     ]
 
     pub write_came : Came → result ≡ status.WriteFault → Rose faults_old faults_new
     write_came came is = elim came.ends.ends [
-      | inl told ↦ absurd ((proper.cause came.readings came.outcome came.expected).none_written (sym told.0 ∙ is))
+      | inl told ↦ absurd ((proper.cause came.follows.readings came.outcome came.follows.step).none_written (sym told.0 ∙ is))
       | inr cut ↦ cut.2
     ]
 
-    pub absent_came : Came → result ≢ status.ReadFault → counts'.absent_starts ≡ counts.absent_starts
+    pub absent_came : Came → result ≢ status.ReadFault → (tells.counts store').absent_starts ≡ (tells.counts store).absent_starts
     absent_came came other = elim came.ends.ends [
-      | inl told ↦ absent_kept names bytes counts counts' files (Expected words) proper came.readings came.outcome came.are came.expected (λ is. other (told.0 ∙ is))
-      | inr cut ↦ absent_kept names bytes counts counts' files (Expected words) proper came.readings came.outcome came.are came.expected (writes_other came.outcome.status status.ReadFault (λ m. m) (whole_writes came.outcome.status (came.ends.writes cut.0)))
+      | inl told ↦ absent_kept (tells.names store) (tells.bytes store) (tells.counts store) (tells.counts store') files (λ readings o. CallFor words readings (Err o)) proper came.follows.readings came.outcome came.follows.are came.follows.step (λ is. other (told.0 ∙ is))
+      | inr cut ↦ absent_kept (tells.names store) (tells.bytes store) (tells.counts store) (tells.counts store') files (λ readings o. CallFor words readings (Err o)) proper came.follows.readings came.outcome came.follows.are came.follows.step (writes_other came.outcome.status status.ReadFault (λ m. m) (whole_writes came.outcome.status (came.ends.writes cut.0)))
     ]
 
-    pub completes_came : Came → (readings : List Reading) (outcome : Outcome) → Expected words readings outcome → outcome.status ≡ status.Done → AreToldBy names bytes readings → (Rose counts.faults counts'.faults → ⊥) → (Rose faults_old faults_new → ⊥) → IsDoneOrMemory result
+    pub completes_came : Came → (readings : List Reading) (outcome : Outcome) → CallFor words readings (Err outcome) → outcome.status ≡ status.Done → AreToldBy (tells.names store) (tells.bytes store) readings → (Rose (tells.counts store).faults (tells.counts store').faults → ⊥) → (Rose faults_old faults_new → ⊥) → IsDoneOrMemory result
     completes_came came readings outcome expected well told kept written = elim came.ends.ends [
-      | inl as_told ↦ subst IsDoneOrMemory (sym as_told.0) (completes names bytes counts counts' files (Expected words) proper came.readings came.outcome came.are came.expected readings outcome expected well told kept)
+      | inl as_told ↦ subst IsDoneOrMemory (sym as_told.0) (completes (tells.names store) (tells.bytes store) (tells.counts store) (tells.counts store') files (λ readings o. CallFor words readings (Err o)) proper came.follows.readings came.outcome came.follows.are came.follows.step readings outcome expected well told kept)
       | inr cut ↦ absurd (written cut.2)
     ]
 

@@ -11,7 +11,7 @@ use Rattle.refusals.specs.declared.status.Status.TheVariants as status
 use Rattle.call_steps.specs.Checks.{ReadsAs, HasNoLoop, HasRoom, IsWithin}
 use Rattle.call_steps.specs.Outcome.{Outcome, refusal}
 use Rattle.yse_top.specs.Law.{AreAlike}
-use Rattle.yse_top.proofs.ProperLemmas.{IsCheck, IsOfText, alike}
+use Rattle.yse_top.proofs.{OneLemmas.alike, ProperLemmas.IsCheck, ProperLemmas.IsOfText}
 
 -- ---- readers of texts: each reads as one thing, or has a first fault
 
@@ -34,6 +34,13 @@ reads_check {X} {E} Reads fault reader text s line of_text = record {
     some : ((x : X) × Reads text x) ⊎ ((why : E) × (fault text ≡ Some why)) → ((x : X) × ReadsAs (Reads text) (fault text) (λ why. refusal s (line why)) (Ok x)) ⊎ ((o : Outcome) × ReadsAs (Reads text) (fault text) (λ why. refusal s (line why)) (Err o))
     some (inl (x, reads)) = inl (x, reads)
     some (inr (why, is)) = inr (refusal s (line why), (why, is, refl))
+
+-- what a text reads as it reads as alone, and it has no fault
+pub reads_once : {X E : Type 0} (Reads : List ℕ → X → Type 0) (fault : List ℕ → Option E) → IsReader Reads fault → (text : List ℕ) (x : X) → Reads text x → ((y : X) → Reads text y → y ≡ x) × ((why : E) → fault text ≡ Some why → ⊥)
+reads_once {X} {E} Reads fault reader text x reads = ((λ y reads_too. reader.one text y x reads_too reads), λ why is. clash (reader.no_fault text x reads) is)
+  where
+    clash : {why : E} → fault text ≡ None → fault text ≡ Some why → ⊥
+    clash e f = cc
 
 -- ---- loops
 

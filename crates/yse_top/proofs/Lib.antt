@@ -1,12 +1,12 @@
 mod AcceptedLemmas
+mod AgainLemmas
 mod CallLemmas
 mod CameLemmas
 mod CheckLemmas
 mod ChoiceLemmas
-mod CommandLemmas
 mod EndLemmas
+mod OneLemmas
 mod OrderLemmas
-mod OutcomeLemmas
 mod ProperLemmas
 mod ReportLemmas
 mod SequelLemmas

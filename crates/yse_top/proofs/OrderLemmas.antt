@@ -12,10 +12,9 @@ use Rattle.event_defs.specs.Steps.{CoreState, AreFirstSteps, AllDone, rows_done}
 use Rattle.event_defs.specs.{Linked.AreLinkedAlike, declared.place.Place.Place, declared.place.CoreStep.CoreStep}
 use Rattle.stim_text.specs.{declared.order.Order.Order, declared.order.OrderLine.OrderLine, Orders.IsValidOrder, Orders.steps_of}
 use Rattle.yse_compile.proofs.lemmas.DesignExists.{HasDesign}
-use Rattle.yse_top.specs.Law.{HasOutcome}
-use Rattle.call_steps.specs.{Images.IsMachineImage, Checks.Ends, Outcome.Outcome, Outcome.done, Outcome.unfinished}
+use Rattle.call_steps.specs.{Images.IsMachineImage, Outcome.Outcome, Outcome.done, Outcome.unfinished}
 use Rattle.yse_commands.specs.Orders.{IsAfterOrder, EndsIn, EndsInOrder}
-use Rattle.yse_top.proofs.{OutcomeLemmas.outcome_ends, ProperLemmas.IsEnding, ProperLemmas.IsOfEnd, ProperLemmas.alike}
+use Rattle.yse_top.proofs.{OneLemmas.alike, ProperLemmas.HasEnd, ProperLemmas.IsEnding, ProperLemmas.IsOfEnd}
 
 -- two states of which all that is printed is the same
 pub record AreDoneAlike (until : ℕ) (image other : Image) (one two : CoreState) : Type 0 where
@@ -90,7 +89,7 @@ module _ (net : Netlist) (timing : Timing) (stimulus : Stimulus) where
 
   pub order_outcome : (order : Order) (banks : ℕ) (choice : HomeChoice) (machine : Machine) → HasOneSimulation net timing stimulus → HasDesign choice net machine timing → IsValidOrder (ports_of machine) order
       → ((image : Image) → IsWellFormed image → Each (λ p. p < length image.ports) (steps_of order) → (answers : List CoreStep) × (state : CoreState) × AreFirstSteps image stimulus banks (turn_count timing stimulus) (steps_of order) answers state)
-      → HasOutcome (Ends (EndsInOrder order banks choice net machine timing stimulus))
+      → HasEnd (EndsInOrder order banks choice net machine timing stimulus)
   order_outcome order banks choice machine simulation has valid steps = told (done_known has.chosen.compiled.image (turn_count timing stimulus) after.1) where
     count : length has.chosen.compiled.image.ports ≡ ports_of machine
     count =
@@ -115,10 +114,10 @@ module _ (net : Netlist) (timing : Timing) (stimulus : Stimulus) where
       ends = ends;
     }
 
-    told : IsDecidable (AllDone has.chosen.compiled.image (turn_count timing stimulus) after.1) → HasOutcome (Ends (EndsInOrder order banks choice net machine timing stimulus))
+    told : IsDecidable (AllDone has.chosen.compiled.image (turn_count timing stimulus) after.1) → HasEnd (EndsInOrder order banks choice net machine timing stimulus)
     told (inl all) =
         let o : Outcome = done (to simulation.states (cycle_count stimulus)) in
-        outcome_ends (EndsInOrder order banks choice net machine timing stimulus) o (ending o (inl (all, refl))) (λ e. cc)
+        (o, ending o (inl (all, refl)), λ e. cc)
     told (inr some) =
         let o : Outcome = unfinished (rows_done has.chosen.compiled.image after.1) (cycle_count stimulus) (to simulation.states (rows_done has.chosen.compiled.image after.1)) in
-        outcome_ends (EndsInOrder order banks choice net machine timing stimulus) o (ending o (inr (some, refl))) (λ e. cc)
+        (o, ending o (inr (some, refl)), λ e. cc)

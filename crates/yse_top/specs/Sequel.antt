@@ -1,18 +1,38 @@
 -- Two calls, one after the other: `compile` writes an image, and `exec` runs what it wrote.
-use Rattle.std.specs.Prelude.{◌≡◌, ◌⊎◌, ◌≤◌, ℕ, Bool, List, Option, Some, IfSome, length, slice_get}
+use Rattle.std.specs.Prelude.{◌≡◌, ◌⊎◌, ◌≤◌, ℕ, Bool, List, [], ◌∷◌, Option, Some, None, IfSome, Result, Ok, Err, length, slice_get}
 use Rattle.std.specs.Io.KnownBytes.{append_known}
 use Rattle.cmd_words.specs.declared.command.Command.TheVariants as command
 use Rattle.cmd_words.specs.{declared.command.RunWords.RunWords, Forms.HasForm}
 use Rattle.edge_io.specs.{Counts.Rose, Writing.TakesLine, declared.counts.FileCounts.FileCounts}
+use Rattle.image_defs.specs.declared.{file.ImageFile.ImageFile, image.Image.Image}
+use Rattle.image_file.specs.Files.{image_text}
 use Rattle.limits.specs.declared.TheConstants.{MAX_TEXT_BYTES}
+use Rattle.net_defs.specs.declared.{netlist.Netlist.Netlist, timing.Timing.Timing}
 use Rattle.refusals.specs.declared.status.Status.{Status}
 use Rattle.refusals.specs.declared.status.Status.TheVariants as status
-use Rattle.call_steps.specs.{Outcome.Outcome, Readings.Reading, Readings.AreReadings}
+use Rattle.call_steps.specs.{Checks.read_fault, FileSteps.ImageIn, Outcome.Outcome, Outcome.out_of_memory, Readings.Reading, Readings.AreReadings}
 use Rattle.yse_commands.specs.{Ends.EndsAs, Expected.Expected}
 
 -- what was read of a file is what it holds
 abbrev pub AreHeld : (List ℕ → List ℕ) → List Reading → Type 0
 AreHeld held readings = (place : ℕ) (reading : Reading) → slice_get readings place ≡ Some reading → IfSome reading.bytes (λ bytes. bytes ≡ held reading.file)
+
+-- some file could not be read
+abbrev pub HasUnread : List Reading → Type 0
+HasUnread [] = ⊥
+HasUnread (reading ∷ readings) = (reading.bytes ≡ None) ⊎ HasUnread readings
+
+-- this value is handed on, or memory is wanting, or a file could not be read
+abbrev pub IsOrFails : {X : Type 0} → X → List Reading → Result X Outcome → Type 0
+IsOrFails x readings (Ok y) = y ≡ x
+IsOrFails x readings (Err outcome) = (outcome ≡ out_of_memory) ⊎ ((file : List ℕ) × (outcome ≡ read_fault file) × HasUnread readings)
+
+-- where the named file holds the text of the image, which isn't too long, the netlist accepts it
+abbrev pub IsTaken : Netlist → Timing → ImageFile → Type 0
+IsTaken net timing file =
+    (held : List ℕ → List ℕ) (name : List ℕ) (readings : List Reading) (result : Result Image Outcome)
+    → held name ≡ image_text file → length (image_text file) ≤ MAX_TEXT_BYTES → AreHeld held readings
+    → ImageIn name net timing readings result → IsOrFails file.image readings result
 
 -- the words name the same netlist and the same list, and the same mode, turns of a cycle and initial value
 pub record AreOfOneDesign (words other : RunWords) : Type 0 where

@@ -7,7 +7,7 @@ ghost use Rattle.edge_io.specs.Writing.{TakesLine};
 ghost use Rattle.limits.specs.declared.TheConstants.{MAX_WORKERS};
 ghost use Rattle.machine_run.specs.Visits.{AreInPlace};
 ghost use Rattle.yse_top.specs.code.Came.{CameTo};
-ghost use Rattle.yse_commands.specs.{Ends.MayWrite, Expected.Expected, Expected.ExpectedOf, Visited.AllCanTell};
+ghost use Rattle.yse_commands.specs.{Ends.MayWrite, Expected.CallFor, Expected.CallOf, Visited.AllCanTell};
 
 use crate::commands::prepare;
 use crate::ending::end;
@@ -32,10 +32,7 @@ pub fn call<R: Threads + Wait + Sync, F: Files, O: Sink, E: Sink, G: Gate + Send
 ) -> Status
     requires gates { MAX_WORKERS ≤ length gates.old }
     requires tell { AllCanTell G.Gate.own gates.old }
-    ensures same_names { F.names files.new ≡ F.names files.old }
-    ensures same_bytes { F.bytes files.new ≡ F.bytes files.old }
-    ensures came { CameTo G.Gate.own gates.old gates.new (F.names files.old) (F.bytes files.old) (F.counts files.old)
-        (F.counts files.new) (Expected (map string_bytes words.now))
+    ensures came { CameTo G.Gate.own gates.old gates.new F.Files.own files.old files.new (CallFor (map string_bytes words.now))
         result (O.taken out.old) (O.taken out.new) (O.faults out.old) (O.faults out.new)
         (TakesLine (E.taken err.old) (E.taken err.new) (E.faults err.old) (E.faults err.new)) }
     ensures no_output { (MayWrite result → ⊥) → out.new ≡ out.old }
@@ -66,10 +63,7 @@ fn obey<R: Threads + Wait + Sync, F: Files, O: Sink, E: Sink, G: Gate + Send>(
     requires range { IsInRange command.now }
     requires gates { MAX_WORKERS ≤ length gates.old }
     requires tell { AllCanTell G.Gate.own gates.old }
-    ensures same_names { F.names files.new ≡ F.names files.old }
-    ensures same_bytes { F.bytes files.new ≡ F.bytes files.old }
-    ensures came { CameTo G.Gate.own gates.old gates.new (F.names files.old) (F.bytes files.old) (F.counts files.old)
-        (F.counts files.new) (ExpectedOf command.now)
+    ensures came { CameTo G.Gate.own gates.old gates.new F.Files.own files.old files.new (CallOf command.now)
         result (O.taken out.old) (O.taken out.new) (O.faults out.old) (O.faults out.new)
         (TakesLine (E.taken err.old) (E.taken err.new) (E.faults err.old) (E.faults err.new)) }
     ensures no_output { (MayWrite result → ⊥) → out.new ≡ out.old }

@@ -4,8 +4,7 @@ ghost use Rattle.image_defs.specs.declared.file.Claims.{Claims};
 ghost use Rattle.machine_text.specs.{declared.machine.Machine.Machine, Machines.IsValid as IsValidMachine};
 ghost use Rattle.net_defs.specs.{declared.netlist.Netlist.Netlist, declared.timing.Timing.Timing, Valid.IsValid};
 ghost use Rattle.yse_compile.specs.{declared.compiler.Compiled.Compiled, Claims.AreClaimsOf, Chosen.IsDesign};
-ghost use Rattle.yse_top.specs.{Law.AreProper, Law.HaveOutcomes, Law.TellsWords, Sequel.RunsWhatIsCompiled};
-ghost use Rattle.yse_commands.specs.commands.Exec.{IsTaken};
+ghost use Rattle.yse_top.specs.{Law.AreProper, Law.HaveOutcomes, Law.TellsWords, Sequel.IsTaken, Sequel.RunsWhatIsCompiled};
 
 use bench_read::law::{reads_or_faults as netlists_or_faults, texts_read_as_valid};
 use bench_read::list_law::{reads_as_ascending, reads_or_faults as lists_or_faults};

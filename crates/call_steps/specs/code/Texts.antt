@@ -2,7 +2,7 @@
 use Rattle.std.specs.Prelude.{◌≡◌, ℕ, List, [], ◌∷◌, Bool, Option, Some, None, Result, Ok, Err}
 use Rattle.edge_io.specs.declared.counts.FileCounts.{FileCounts}
 use Rattle.refusals.specs.declared.refusal.Refusal.{Refusal}
-use Rattle.call_steps.specs.{Checks.text_of, Checks.read_fault, Readings.AreReadings, Refused.Satisfies, Refused.refused_of, Refused.status_after}
+use Rattle.call_steps.specs.{Checks.text_of, Checks.read_fault, Readings.AreReadings, Refused.Satisfies, Refused.answer, Refused.refused_of, Steps.status_at}
 
 -- a call answers the text of a file whose bytes these are
 abbrev pub AnswersText : List ℕ → Option (List ℕ) → Result (List ℕ) Refusal → Type 0
@@ -14,5 +14,5 @@ module _ (names : Option (List ℕ → Bool)) (bytes : Option (List ℕ → List
   -- a call began one file, and answers its text
   pub record GivesText (file : List ℕ) (result : Result (List ℕ) Refusal) : Type 0 where
     pub gave : Option (List ℕ)
-    pub reading : AreReadings names bytes old new (status_after result) (record { file = file; bytes = gave } ∷ [])
+    pub reading : AreReadings names bytes old new (status_at (answer result)) (record { file = file; bytes = gave } ∷ [])
     pub text : AnswersText file gave result

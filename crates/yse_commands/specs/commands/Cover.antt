@@ -5,8 +5,8 @@ use Rattle.cover_sim.specs.{Lines.cover_lines, Marks.AreMarks, declared.marks.Ma
 use Rattle.edge_io.specs.Writing.{joined}
 use Rattle.net_defs.specs.declared.{netlist.Netlist.Netlist, stimulus.Stimulus.Stimulus, timing.Timing.Timing}
 use Rattle.cmd_words.specs.declared.command.RunWords.{RunWords}
-use Rattle.call_steps.specs.Checks.{After, Ends, Writes, HasNoLoop}
-use Rattle.call_steps.specs.{Outcome.Outcome, Readings.Reading, Files.AfterNetlist, Files.AfterStimulus}
+use Rattle.call_steps.specs.Checks.{HasNoLoop, Writes}
+use Rattle.call_steps.specs.{FileSteps.DesignOf, FileSteps.StimulusIn, Steps.◌>>=◌, Steps.◌>>◌, Steps.Call, Steps.Checks, Steps.Ends}
 
 -- the output is a line for the marks of each signal, and a last one on how many signals have all
 pub record IsCoverage (net : Netlist) (timing : Timing) (stimulus : Stimulus) (output : List ℕ) : Type 0 where
@@ -14,15 +14,10 @@ pub record IsCoverage (net : Netlist) (timing : Timing) (stimulus : Stimulus) (o
   pub are : AreMarks net timing stimulus marks
   pub printed : output ≡ joined (cover_lines net marks)
 
--- the coverage is written
-abbrev pub WritesCoverage : Netlist → Timing → Stimulus → List Reading → Outcome → Type 0
-WritesCoverage net timing stimulus = Ends (Writes (IsCoverage net timing stimulus))
-
--- the loop, the stimulus, and then the coverage
-abbrev pub CoversIn : List ℕ → Netlist → Timing → List Reading → Outcome → Type 0
-CoversIn stimulus net timing =
-    After (HasNoLoop net timing) (λ passed. AfterStimulus stimulus net (WritesCoverage net timing))
-
--- the netlist, and then its coverage
-abbrev pub ExpectedCover : RunWords → List Reading → Outcome → Type 0
-ExpectedCover words = AfterNetlist words (CoversIn words.stimulus)
+-- the netlist, its loop, the stimulus, and then the coverage
+abbrev pub Covers : RunWords → Call
+Covers words = do
+  design ← DesignOf words
+  Checks (HasNoLoop design.net design.timing)
+  stimulus ← StimulusIn words.stimulus design.net
+  Ends (Writes (IsCoverage design.net design.timing stimulus))

@@ -2,8 +2,8 @@
 use Rattle.std.specs.Prelude.{◌≡◌, List, Option}
 use Rattle.cmd_words.specs.declared.topic.Topic.{Topic}
 use Rattle.help_text.specs.Texts.{text_of}
-use Rattle.call_steps.specs.{Checks.Ends, Checks.Writes, Outcome.Outcome, Readings.Reading}
+use Rattle.call_steps.specs.{Checks.Writes, Steps.Call, Steps.Ends}
 
 -- the text, without a file
-abbrev pub ExpectedHelp : Option Topic → List Reading → Outcome → Type 0
-ExpectedHelp topic = Ends (Writes (λ output. output ≡ text_of topic))
+abbrev pub Helps : Option Topic → Call
+Helps topic = Ends (Writes (λ output. output ≡ text_of topic))

@@ -5,9 +5,9 @@ use Rattle.trace_text.specs.Lines.{lane_line}
 use Rattle.net_defs.specs.{declared.netlist.Netlist.Netlist, declared.stimulus.Stimulus.Stimulus, declared.timing.Timing.Timing, Trace.IsTrace}
 use Rattle.stim_text.specs.declared.lanes.Lanes.{Lanes}
 use Rattle.cmd_words.specs.declared.command.RunWords.{RunWords}
-use Rattle.call_steps.specs.Checks.{After, Ends, WritesTold, HasFewBits, HasFewLaneCells}
-use Rattle.call_steps.specs.{Outcome.Outcome, Readings.Reading, Designs.Placed, Files.AfterLanes, Passing.AfterPlaced, Passing.Continuation}
+use Rattle.call_steps.specs.Checks.{HasFewBits, HasFewLaneCells, WritesTold}
 use Rattle.yse_commands.specs.Told.{lanes_turns}
+use Rattle.call_steps.specs.{FileSteps.LanesIn, FileSteps.PlacedOnMachine, Steps.◌>>=◌, Steps.◌>>◌, Steps.Call, Steps.Checks, Steps.Ends}
 
 -- for each lane after the first n the line with its number, and then the trace of the lane's own stimulus
 abbrev pub AreTracesAfter : Netlist → Timing → ℕ → List Stimulus → List ℕ → Type 0
@@ -20,16 +20,11 @@ AreTracesAfter net timing n (stimulus ∷ lanes) output =
 abbrev pub AreLaneTraces : Netlist → Timing → Lanes → List ℕ → Type 0
 AreLaneTraces net timing lanes = AreTracesAfter net timing 0 lanes.lanes
 
--- the cells, and then the traces of the lanes
-abbrev pub KeepsLanes : RunWords → Placed → Lanes → List Reading → Outcome → Type 0
-KeepsLanes words design lanes =
-    After (HasFewLaneCells design.net lanes) (λ few.
-    Ends (WritesTold (Some (lanes_turns words design lanes)) (AreLaneTraces design.net design.timing lanes)))
-
--- the bits of the memories of a design, the lanes, and then their traces
-abbrev pub Packs : RunWords → Continuation Placed
-Packs words design = After (HasFewBits design.net) (λ few. AfterLanes words.stimulus design.net (KeepsLanes words design))
-
--- the design on its machine, and then a run of all lanes
-abbrev pub ExpectedPack : RunWords → List Reading → Outcome → Type 0
-ExpectedPack words = AfterPlaced words (Packs words)
+-- the design on its machine, the bits of its memories, the lanes, their cells, and then the traces of the lanes
+abbrev pub Packs : RunWords → Call
+Packs words = do
+  design ← PlacedOnMachine words
+  Checks (HasFewBits design.net)
+  lanes ← LanesIn words.stimulus design.net
+  Checks (HasFewLaneCells design.net lanes)
+  Ends (WritesTold (Some (lanes_turns words design lanes)) (AreLaneTraces design.net design.timing lanes))

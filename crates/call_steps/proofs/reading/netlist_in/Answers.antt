@@ -1,19 +1,19 @@
 use Rattle.call_steps.specs.Checks.{IsNetlistOf}
-use Rattle.call_steps.proofs.PassingLemmas.{file_passes, file_refused, file_stops, no_value}
-use Rattle.call_steps.proofs.RefusedLemmas.{netlist_refused}
+use Rattle.call_steps.proofs.{RefusedLemmas.netlist_refused, lemmas.StepLemmas.file_passes, lemmas.StepLemmas.file_refused, lemmas.StepLemmas.file_stops, lemmas.StepLemmas.handed_on}
 use Rattle.call_steps.proofs.reading.netlist_in.Goals as goal
 
-pub returns-in_err-text : goal.returns-in_err-text
-returns-in_err-text g c =
-    record { same_names = c.read_text.ensures.same_names; same_bytes = c.read_text.ensures.same_bytes; step = file_stops _ _ IsNetlistOf _ _ c.args.file.now _ _ c.from_residual.ensures.1 c.in_err-text.ensures.text; valid = no_value _ _ _ c.from_residual.ensures.1 }
+pub returns-in_err-text-clause-step : goal.returns-in_err-text-clause-step
+returns-in_err-text-clause-step g c = handed_on _ _ c.from_residual.ensures (file_stops IsNetlistOf c.in_err-text.ensures.step)
 
-pub returns-in_err-net : goal.returns-in_err-net
-returns-in_err-net g c =
-    let says = c.from_residual-in_err-net.ensures.1 in
+pub returns-in_err-net-clause-step : goal.returns-in_err-net-clause-step
+returns-in_err-net-clause-step g c =
     let answers = rw c.as_slice-bytes.ensures at c.in_err-net.ensures.answers in
-    record { same_names = c.read_text.ensures.same_names; same_bytes = c.read_text.ensures.same_bytes; step = file_refused _ _ IsNetlistOf _ _ c.args.file.now c.in_ok-text.text _ _ says c.in_ok-text.ensures.text (netlist_refused _ _ answers); valid = no_value _ _ _ says }
+    handed_on _ _ c.from_residual-in_err-net.ensures (file_refused IsNetlistOf c.in_ok-text.ensures.step (netlist_refused c.in_ok-text.text _ answers))
 
-pub returns : goal.returns
-returns g c =
+pub returns-clause-step : goal.returns-clause-step
+returns-clause-step g c =
     let answers = rw c.as_slice-bytes.ensures at c.in_ok-net.ensures.answers in
-    record { same_names = c.read_text.ensures.same_names; same_bytes = c.read_text.ensures.same_bytes; step = file_passes _ _ IsNetlistOf _ _ c.args.file.now c.in_ok-text.text _ c.in_ok-text.ensures.text answers.1; valid = c.reads_as_valid.ensures c.in_ok-net.ensures.answers.1 }
+    file_passes IsNetlistOf c.in_ok-text.ensures.step answers.1
+
+pub returns-clause-valid : goal.returns-clause-valid
+returns-clause-valid g c = c.reads_as_valid.ensures c.in_ok-net.ensures.answers.1

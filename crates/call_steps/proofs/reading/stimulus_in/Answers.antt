@@ -1,22 +1,19 @@
-use Rattle.call_steps.specs.{Checks.IsStimulusOf, Files.AfterStimulus}
-use Rattle.call_steps.proofs.PassingLemmas.{file_passes, file_refused, file_stops, no_value}
-use Rattle.call_steps.proofs.RefusedLemmas.{stimulus_refused}
+use Rattle.call_steps.specs.Checks.{IsStimulusOf}
+use Rattle.call_steps.proofs.{RefusedLemmas.stimulus_refused, lemmas.StepLemmas.file_passes, lemmas.StepLemmas.file_refused, lemmas.StepLemmas.file_stops, lemmas.StepLemmas.handed_on}
 use Rattle.call_steps.proofs.reading.stimulus_in.Goals as goal
 
-pub returns-in_err-text : goal.returns-in_err-text
-unfolding AfterStimulus
-returns-in_err-text g c =
-    record { same_names = c.read_text.ensures.same_names; same_bytes = c.read_text.ensures.same_bytes; step = file_stops _ _ (λ text. IsStimulusOf text c.args.net.now) _ _ c.args.file.now _ _ c.from_residual.ensures.1 c.in_err-text.ensures.text; valid = no_value _ _ _ c.from_residual.ensures.1; columns = no_value _ _ _ c.from_residual.ensures.1 }
+pub returns-in_err-text-clause-step : goal.returns-in_err-text-clause-step
+returns-in_err-text-clause-step g c = handed_on _ _ c.from_residual.ensures (file_stops (λ text. IsStimulusOf text c.args.net.now) c.in_err-text.ensures.step)
 
-pub returns-in_err-stimulus : goal.returns-in_err-stimulus
-unfolding AfterStimulus
-returns-in_err-stimulus g c =
-    let says = c.from_residual-in_err-stimulus.ensures.1 in
+pub returns-in_err-stimulus-clause-step : goal.returns-in_err-stimulus-clause-step
+returns-in_err-stimulus-clause-step g c =
     let answers = rw (c.as_slice.ensures, c.inputs.ensures) at c.in_err-stimulus.ensures.answers in
-    record { same_names = c.read_text.ensures.same_names; same_bytes = c.read_text.ensures.same_bytes; step = file_refused _ _ (λ text. IsStimulusOf text c.args.net.now) _ _ c.args.file.now c.in_ok-text.text _ _ says c.in_ok-text.ensures.text (stimulus_refused c.in_ok-text.text c.args.net.now _ answers); valid = no_value _ _ _ says; columns = no_value _ _ _ says }
+    handed_on _ _ c.from_residual-in_err-stimulus.ensures (file_refused (λ text. IsStimulusOf text c.args.net.now) c.in_ok-text.ensures.step (stimulus_refused c.in_ok-text.text c.args.net.now _ answers))
 
-pub returns : goal.returns
-unfolding AfterStimulus
-returns g c =
+pub returns-clause-step : goal.returns-clause-step
+returns-clause-step g c =
     let answers = rw (c.as_slice.ensures, c.inputs.ensures) at c.in_ok-stimulus.ensures.answers in
-    record { same_names = c.read_text.ensures.same_names; same_bytes = c.read_text.ensures.same_bytes; step = file_passes _ _ (λ text. IsStimulusOf text c.args.net.now) _ _ c.args.file.now c.in_ok-text.text _ c.in_ok-text.ensures.text answers.1; valid = c.in_ok-stimulus.ensures.valid; columns = rw c.inputs.ensures at c.in_ok-stimulus.ensures.columns }
+    file_passes (λ text. IsStimulusOf text c.args.net.now) c.in_ok-text.ensures.step answers.1
+
+pub returns-clause-columns : goal.returns-clause-columns
+returns-clause-columns g c = rw c.inputs.ensures at c.in_ok-stimulus.ensures.columns

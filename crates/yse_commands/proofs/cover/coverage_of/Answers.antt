@@ -1,28 +1,20 @@
 -- The stimulus, and the coverage.
-use Rattle.std.proofs.Common.{refl, inl, inr}
-use Rattle.yse_commands.specs.commands.Cover.{WritesCoverage}
-use Rattle.yse_commands.proofs.{lemmas.ChainLemmas.follows_here, lemmas.ChainLemmas.handed_on, PassingLemmas.stimulus_on, PassingLemmas.stimulus_stops}
+use Rattle.std.proofs.Common.{refl}
+use Rattle.call_steps.proofs.lemmas.StepLemmas.{comes_to, out_of, passed_on, stopped}
+use Rattle.yse_commands.proofs.lemmas.FollowLemmas.{refused_on}
 use Rattle.yse_commands.proofs.cover.coverage_of.Goals as goal
 
 pub returns-in_err-stimulus-clause-expected : goal.returns-in_err-stimulus-clause-expected
 returns-in_err-stimulus-clause-expected g c =
-    let net = c.args.design.now.net in
-    handed_on _ c.from_residual.result c.from_residual.ensures
-    (stimulus_stops _ _ c.args.words.now.stimulus net (WritesCoverage net c.args.timing.now) _ _ _ (rw c.as_bytes.ensures at c.in_err-stimulus.ensures.step))
+    let stimulus = rw c.as_bytes.ensures at c.in_err-stimulus.ensures.step in
+    refused_on _ _ c.from_residual.ensures (stopped stimulus)
 
 pub returns-in_err-lines-clause-expected : goal.returns-in_err-lines-clause-expected
 returns-in_err-lines-clause-expected g c =
-    let net = c.args.design.now.net in
-    let ends = WritesCoverage net c.args.timing.now in
-    let stimulus = c.in_ok-stimulus.stimulus in
-    handed_on _ c.from_residual-in_err-lines.result c.from_residual-in_err-lines.ensures
-    (stimulus_on _ _ c.args.words.now.stimulus net ends stimulus _ _ _ _ _ _ c.in_ok-stimulus.ensures.same_names c.in_ok-stimulus.ensures.same_bytes (rw c.as_bytes.ensures at c.in_ok-stimulus.ensures.step)
-    (follows_here _ _ _ _ (ends stimulus) (refl, inr refl)))
+    let stimulus = rw c.as_bytes.ensures at c.in_ok-stimulus.ensures.step in
+    refused_on _ _ c.from_residual-in_err-lines.ensures (passed_on stimulus out_of)
 
 pub returns-clause-expected : goal.returns-clause-expected
 returns-clause-expected g c =
-    let net = c.args.design.now.net in
-    let ends = WritesCoverage net c.args.timing.now in
-    let stimulus = c.in_ok-stimulus.stimulus in
-    stimulus_on _ _ c.args.words.now.stimulus net ends stimulus _ _ _ _ _ _ c.in_ok-stimulus.ensures.same_names c.in_ok-stimulus.ensures.same_bytes (rw c.as_bytes.ensures at c.in_ok-stimulus.ensures.step)
-    (follows_here _ _ _ _ (ends stimulus) (refl, inl (_, c.in_ok-lines.ensures, refl)))
+    let stimulus = rw c.as_bytes.ensures at c.in_ok-stimulus.ensures.step in
+    passed_on stimulus (comes_to (_, c.in_ok-lines.ensures, refl))

@@ -12,10 +12,8 @@ returns-in-Ok-clause-came g c =
     let output = c.in-Ok.output in
     let ended = c.end.ensures.ends c.args.out.now c.in-Ok.ensures.written in
     record {
-      readings = comes.follows.readings;
       outcome = outcome_of comes.told (Ok output);
-      are = comes.follows.are;
-      expected = comes.follows.expected;
+      follows = comes.follows;
       ends = record { ends = ended.ends; writes = ended.writes; kept = ended.kept };
       told = tells_ended g.G.Gate c.args.gates.now c.prepare.new.gates comes.told (wrote_in output) c.end.result c.end.ensures.failed comes.visits;
     }
@@ -27,10 +25,8 @@ returns-in-Err-clause-came g c =
     let comes = c.in-Err.ensures.comes in
     let same = c.in-Err.ensures.written in
     record {
-      readings = comes.follows.readings;
       outcome = outcome_of comes.told (Err why);
-      are = comes.follows.are;
-      expected = comes.follows.expected;
+      follows = comes.follows;
       ends = refused_ends comes.told why c.refuse.result _ _ _ _ _ c.refuse.ensures.status (ap (λ s. g.O.Sink.taken s) same) (ap (λ s. g.O.Sink.faults s) same) c.refuse.ensures.line;
       told = subst (λ w. TellsTurns g.G.Gate c.args.gates.now c.prepare.new.gates w comes.told) (sym (ap wrote_at c.refuse.ensures.status ∙ refused_wrote why)) comes.visits;
     }

@@ -1,6 +1,7 @@
--- Each command comes to its chain; those that tell no gate read files alone, and a generated design and help need none.
-use Rattle.yse_commands.specs.commands.{Help.ExpectedHelp, Large.ExpectedLarge}
-use Rattle.yse_commands.proofs.lemmas.ChainLemmas.{comes_silent, follows_here}
+-- Each command comes to an outcome of its steps; those that tell no gate read files alone, and a generated design and help need none.
+use Rattle.yse_commands.specs.commands.{Help.Helps, Large.RunsLarge}
+use Rattle.call_steps.proofs.lemmas.StepLemmas.{here}
+use Rattle.yse_commands.proofs.lemmas.FollowLemmas.{silent}
 use Rattle.yse_top.proofs.commands.prepare.Goals as goal
 
 pub returns-in-Run-clause-comes : goal.returns-in-Run-clause-comes
@@ -17,30 +18,30 @@ returns-in-Large-clause-comes g c =
     let large = c.large.ensures.comes in
     rw c.in-Large.is (record {
       told = large.0;
-      follows = follows_here _ _ _ _ (ExpectedLarge c.in-Large.count c.in-Large.cycles c.in-Large.workers) large.1;
+      follows = here _ (RunsLarge c.in-Large.count c.in-Large.cycles c.in-Large.workers) _ large.1;
       visits = large.2;
     })
 
 pub returns-in-Help-clause-comes : goal.returns-in-Help-clause-comes
-returns-in-Help-clause-comes g c = rw c.in-Help.is (comes_silent _ _ _ _ _ _ _ _ (follows_here _ _ _ _ (ExpectedHelp c.in-Help.topic) c.help.ensures.expected))
+returns-in-Help-clause-comes g c = rw c.in-Help.is (silent (here _ (Helps c.in-Help.topic) _ c.help.ensures.expected))
 
 pub returns-in-Refer-clause-comes : goal.returns-in-Refer-clause-comes
-returns-in-Refer-clause-comes g c = rw c.in-Refer.is (comes_silent _ _ _ _ _ _ _ _ c.refer.ensures.expected)
+returns-in-Refer-clause-comes g c = rw c.in-Refer.is (silent c.refer.ensures.expected)
 
 pub returns-in-Order-clause-comes : goal.returns-in-Order-clause-comes
-returns-in-Order-clause-comes g c = rw c.in-Order.is (comes_silent _ _ _ _ _ _ _ _ c.order.ensures.expected)
+returns-in-Order-clause-comes g c = rw c.in-Order.is (silent c.order.ensures.expected)
 
 pub returns-in-Plan-clause-comes : goal.returns-in-Plan-clause-comes
-returns-in-Plan-clause-comes g c = rw c.in-Plan.is (comes_silent _ _ _ _ _ _ _ _ c.lay_out.ensures.expected)
+returns-in-Plan-clause-comes g c = rw c.in-Plan.is (silent c.lay_out.ensures.expected)
 
 pub returns-in-Compile-clause-comes : goal.returns-in-Compile-clause-comes
-returns-in-Compile-clause-comes g c = rw c.in-Compile.is (comes_silent _ _ _ _ _ _ _ _ c.lay_out-in-Compile.ensures.expected)
+returns-in-Compile-clause-comes g c = rw c.in-Compile.is (silent c.lay_out-in-Compile.ensures.expected)
 
 pub returns-in-Fault-clause-comes : goal.returns-in-Fault-clause-comes
-returns-in-Fault-clause-comes g c = rw c.in-Fault.is (comes_silent _ _ _ _ _ _ _ _ c.fault.ensures.expected)
+returns-in-Fault-clause-comes g c = rw c.in-Fault.is (silent c.fault.ensures.expected)
 
 pub returns-in-Cover-clause-comes : goal.returns-in-Cover-clause-comes
-returns-in-Cover-clause-comes g c = rw c.in-Cover.is (comes_silent _ _ _ _ _ _ _ _ c.cover.ensures.expected)
+returns-in-Cover-clause-comes g c = rw c.in-Cover.is (silent c.cover.ensures.expected)
 
 pub returns-in-Show-clause-comes : goal.returns-in-Show-clause-comes
-returns-in-Show-clause-comes g c = rw c.in-Show.is (comes_silent _ _ _ _ _ _ _ _ (rw c.as_bytes-in-Show.ensures at c.show.ensures.expected))
+returns-in-Show-clause-comes g c = rw c.in-Show.is (silent (rw c.as_bytes-in-Show.ensures at c.show.ensures.expected))

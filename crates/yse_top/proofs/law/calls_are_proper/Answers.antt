@@ -1,7 +1,7 @@
--- The chain of each command, link by link.
+-- The call of each command, step by step.
 use Rattle.std.proofs.Common.{◌≡◌, ◌∙◌, ◌↔◌, ◌⊎◌, inl, inr, ◌≢◌, ◌<◌, ◌≤◌, sym, ap, refl, subst, ℕ, List, [], ◌∷◌, ◌++◌, length, Option, Some, None, Ok, Err}
-use Rattle.std.proofs.lemmas.List.{append-nil}
-use Rattle.std.specs.{List.All, Option.option_to_list}
+use Rattle.std.proofs.lemmas.List.{append-nil, append_assoc}
+use Rattle.std.specs.{List.All, Option.option_to_list, Prelude.⊤}
 use Rattle.limits.specs.declared.TheConstants.{MAX_CELLS, MAX_FAULT_SIGNALS, MAX_LARGE_GATES, MAX_PACK_BITS, MAX_TEXT_BYTES}
 use Rattle.machine_text.specs.{declared.machine.Machine.Machine, Machines.IsValid as IsValidMachine, Machines.default_machine, Machines.ports_of}
 use Rattle.machine_text.specs.Machines as machine_text
@@ -32,31 +32,26 @@ use Rattle.stim_text.specs.LaneTexts as lane_texts
 use Rattle.edge_io.specs.Writing.{joined}
 use Rattle.cover_sim.specs.{Lines.cover_lines, Marks.HasOneCoverage, Marks.HaveOneCoverage}
 use Rattle.fault_sim.specs.{Lines.fault_lines, Verdicts.AreAllFaults, Verdicts.HasOneList, Verdicts.HaveOneList}
-use Rattle.call_steps.specs.Checks.{After, Ends, Writes, WritesTold, IsFaultListOf, IsLanesOf, HasFewBits, HasFewLaneCells, HasFewSignals, cell_count, lane_cell_count, memory_bits, IsMachineOf, IsNetlistOf, HasNoLoop, HasRoom, IsStimulusOf, HasFewCells, IsListOf, IsOrderOf, listing}
+use Rattle.call_steps.specs.Checks.{HasNoLoop, HasRoom, IsFaultListOf, IsLanesOf, IsListOf, IsMachineOf, IsNetlistOf, IsOrderOf, IsStimulusOf, IsWithin, Writes, WritesTold, cell_count, lane_cell_count, listing, memory_bits}
 use Rattle.call_steps.specs.Outcome.{Outcome, Turns, done, out_of_memory, refusal, telling}
-use Rattle.call_steps.specs.Passing.{AfterPlaced, AfterPlacedOn, AfterReady, Continuation, placed}
-use Rattle.call_steps.specs.Files.{AfterFaultList, AfterFit, AfterImage, AfterLanes, AfterList, AfterMachine, AfterMatch, AfterNetlist, AfterStimulus}
-use Rattle.call_steps.specs.{Designs.Placed, Designs.Prepared, Readings.Reading, Images.IsAccepted, Images.IsImageFileOf}
+use Rattle.call_steps.specs.{declared.reading.Timed.Timed, Designs.Placed, Designs.Prepared, Readings.Reading, Images.IsAccepted, Images.IsImageFileOf}
+use Rattle.call_steps.specs.FileSteps.{BuiltIn, DesignOf, FaultsFrom, ImageIn, LanesIn, MachineFrom, NetlistIn, OrderIn, PlacedOnMachine, ReadyOnMachine, RunnableIn, StimulusIn, TimingFrom}
+use Rattle.call_steps.specs.Steps.{Checks, Ends}
 use Rattle.refusals.specs.Lines.{usage_line, machine_line, netlist_line, stimulus_line, cells_line, bits_limit_line, signals_line, lanes_line, order_line, list_line, faults_line, image_line}
 use Rattle.refusals.specs.declared.status.Status.{Status}
-use Rattle.yse_commands.specs.commands.Cover.{CoversIn, ExpectedCover, IsCoverage, WritesCoverage}
-use Rattle.yse_commands.specs.commands.Fault.{AfterListed, ExpectedFault, FaultsIn, IsFaultList, ListsFaults, listed_or_all}
-use Rattle.yse_commands.specs.commands.Pack.{AreLaneTraces, ExpectedPack, KeepsLanes, Packs}
-use Rattle.yse_commands.specs.commands.Run.{AfterLoop, EndsAfter, EndsByOrder, ExpectedOrder, ExpectedRefer, ExpectedRun, KeepsTrace, OrdersOn, RunsOn, RunsTo, WritesTrace}
-use Rattle.yse_commands.specs.{Expected.Expected, Expected.ExpectedOf, Expected.Asks, Told.lanes_turns, Told.large_turns, Told.run_turns, Orders.EndsInOrder}
-use Rattle.yse_commands.specs.{Words.files_of, Words.files_named, commands.Exec.ExpectedExec, commands.Exec.OnImage, commands.Exec.RunsImage}
-use Rattle.yse_commands.specs.commands.{Help.ExpectedHelp, Large.ExpectedLarge, Compile.IsImageTextOf, Layout.ExpectedLayout, Layout.IsSheetOf, Plan.IsReportOf}
-use Rattle.yse_commands.specs.{declared.layout.Sheet.Sheet, commands.Show.ExpectedShow}
-use Rattle.yse_top.specs.Law.{IsProper, HasOutcome}
+use Rattle.yse_commands.specs.commands.{Cover.Covers, Cover.IsCoverage, Fault.Faults, Fault.IsFaultList, Fault.listed_or_all, Pack.AreLaneTraces, Pack.Packs}
+use Rattle.yse_commands.specs.commands.{Run.EndsByOrder, Run.Orders, Run.Refers, Run.Runs, Exec.Executes, Help.Helps, Large.RunsLarge, Compile.IsImageTextOf, Layout.IsSheetOf, Layout.LaysOut, Plan.IsReportOf, Show.Shows}
+use Rattle.yse_commands.specs.{Expected.Asks, Expected.CallFor, Expected.CallOf, Expected.Expected, Told.lanes_turns, Told.large_turns, Told.run_turns, Orders.EndsInOrder}
+use Rattle.yse_commands.specs.{Words.design_files, Words.files_of, Words.files_named, Words.machine_files, Words.ready_files, declared.layout.Sheet.Sheet}
 use Rattle.help_text.specs.Texts.{text_of}
 use Rattle.yse_commands.specs.declared.layout.Sheet.TheVariants as sheet
-use Rattle.yse_top.proofs.CommandLemmas.{IsCommand, command_after, command_file, command_ends, not_words}
+use Rattle.yse_top.proofs.OneLemmas.{alike, no_ok, same_err}
 use Rattle.yse_top.proofs.OrderLemmas.{DecidesOrder, done_alike, order_ending, order_outcome}
-use Rattle.yse_top.proofs.ProperLemmas.{IsCheck, IsAnswered, alike, full_ending, memory_status, proper_after, writes_ending}
+use Rattle.yse_top.proofs.ProperLemmas.{IsAnswered, IsCheck, IsProper, IsSound, full_ending, law_of, memory_status, not_words, outcome_of, proper_checks, proper_ends, proper_file, proper_gives, proper_then, proper_writes, sound_checks, sound_then, writes_ending}
 use Rattle.yse_top.proofs.CheckLemmas.{default_is_valid, reads_check, loop_check, IsRoomLaw, room_check, size_check, trace_only, trace_some}
 use Rattle.yse_top.proofs.{AcceptedLemmas.accepted_check, TraceLemmas.traces_only, TraceLemmas.traces_some}
 use Rattle.yse_top.proofs.TextLemmas.{HasOneImage, one_text, some_text}
-use Rattle.yse_top.proofs.{OutcomeLemmas.outcome_after, OutcomeLemmas.outcome_ends, OutcomeLemmas.outcome_writes, ChoiceLemmas.HasHomes, ChoiceLemmas.has_homes}
+use Rattle.yse_top.proofs.ChoiceLemmas.{HasHomes, has_homes}
 use Rattle.yse_top.proofs.ReportLemmas.{AreOnce, one_report, some_report}
 use Rattle.yse_top.proofs.law.calls_are_proper.Goals as goal
 
@@ -96,13 +91,18 @@ record Laws : Type 0 where
   never_both : (net : Netlist) (timing : Timing) (order circle : List ℕ) → IsOrder net timing order → IsCircle net timing circle → ⊥
   one_simulation : (net : Netlist) (timing : Timing) (stimulus : Stimulus) → ((circle : List ℕ) → IsCircle net timing circle → ⊥) → HasOneSimulation net timing stimulus
 
+-- a netlist and its timing
+record IsSoundDesign (design : Timed) : Type 0 where
+  valid : IsValid design.net
+  timely : IsValidTiming design.timing
+
 -- a design that fits its machine
-record IsRight (words : RunWords) (design : Placed) : Type 0 where
+record IsRight (design : Placed) : Type 0 where
   valid : IsValid design.net
   machine_valid : IsValidMachine design.machine
   timely : IsValidTiming design.timing
   acyclic : IsAcyclic design.net design.timing
-  fits : FitsBy words.homes design.net design.machine design.timing
+  fits : FitsBy design.homes design.net design.machine design.timing
 
 words_status : (o : Outcome) → o ≡ refusal status.Words usage_line → o.status ≡ status.Words
 words_status o is = ap (λ (o : Outcome). o.status) is
@@ -147,225 +147,207 @@ module _ (laws : Laws) where
   image_check : (text : List ℕ) → IsCheck (IsImageFileOf text)
   image_check text = reads_check image_file.Reads image_faults.first_fault laws.images text status.ImageText image_line tt
 
-  trace_proper : (told : Option Turns) (net : Netlist) (timing : Timing) (stimulus : Stimulus) → IsAcyclic net timing → IsCommand [] (Ends (WritesTold told (IsTrace net timing stimulus)))
+  -- ---- steps
+
+  netlist_proper : (file : List ℕ) → IsProper (file ∷ []) IsValid (NetlistIn file)
+  netlist_proper file = proper_file file IsNetlistOf IsValid netlist_check (λ text net short is. laws.valid_netlists text net short is)
+
+  stimulus_proper : (file : List ℕ) (net : Netlist) → IsProper (file ∷ []) (λ stimulus. ⊤) (StimulusIn file net)
+  stimulus_proper file net = proper_file file (λ text. IsStimulusOf text net) (λ stimulus. ⊤) (λ text. stimulus_check text net) (λ text stimulus short is. tt)
+
+  lanes_proper : (file : List ℕ) (net : Netlist) → IsProper (file ∷ []) (λ lanes. ⊤) (LanesIn file net)
+  lanes_proper file net = proper_file file (λ text. IsLanesOf text net) (λ lanes. ⊤) (λ text. lanes_check text net) (λ text lanes short is. tt)
+
+  order_in_proper : (file : List ℕ) (machine : Machine) → IsProper (file ∷ []) (orders.IsValidOrder (ports_of machine)) (OrderIn file machine)
+  order_in_proper file machine = proper_file file (λ text. IsOrderOf text machine) (orders.IsValidOrder (ports_of machine)) (λ text. order_check text machine) (λ text order short is. laws.valid_orders (ports_of machine) text order is)
+
+  machine_proper : (file : Option (List ℕ)) → IsProper (option_to_list file) IsValidMachine (MachineFrom file)
+  unfolding MachineFrom
+  machine_proper None = proper_gives IsValidMachine default_machine laws.default_valid
+  machine_proper (Some file) = proper_file file IsMachineOf IsValidMachine machine_check (λ text machine short is. laws.valid_machines text machine is)
+
+  timing_proper : (last : Option (List ℕ)) (net : Netlist) (given : Timing) → IsValidTiming given → IsProper (option_to_list last) IsValidTiming (TimingFrom last net given)
+  unfolding TimingFrom
+  timing_proper None net given timely = proper_gives IsValidTiming given timely
+  timing_proper (Some file) net given timely =
+      proper_then (proper_file file (λ text. IsListOf text net) Ascends (λ text. list_check text net) (λ text listed short is. laws.ascending net text listed is)) (λ listed ascends.
+      proper_gives IsValidTiming (listing given listed) (record { some = timely.some; few = timely.few; rank = timely.rank; ascends = ascends }))
+
+  faults_proper : (file : Option (List ℕ)) (net : Netlist) → IsProper (option_to_list file) (λ listed. All (IsFault net) (listed_or_all net listed)) (FaultsFrom file net)
+  unfolding FaultsFrom
+  faults_proper None net = proper_gives (λ listed. All (IsFault net) (listed_or_all net listed)) None (laws.all_faults net)
+  faults_proper (Some file) net =
+      proper_then (proper_file file (λ text. IsFaultListOf text net) (All (IsFault net)) (λ text. faults_check text net) (λ text faults short is. laws.stuck net text faults is)) (λ faults are.
+      proper_gives (λ listed. All (IsFault net) (listed_or_all net listed)) (Some faults) are)
+
+  loop_proper : (net : Netlist) (timing : Timing) → IsProper [] (λ passed. IsAcyclic net timing) (Checks (HasNoLoop net timing))
+  loop_proper net timing = proper_checks (HasNoLoop net timing) (loop_check net timing (laws.order_or_loop net timing) (laws.never_both net timing))
+
+  size_proper : (most size : ℕ) (line : ℕ → List ℕ) → IsProper [] (λ passed. size ≤ most) (Checks (IsWithin most size line))
+  size_proper most size line = proper_checks (IsWithin most size line) (size_check most size line)
+
+  design_proper : (words : RunWords) → IsValidTiming words.timing → IsProper (design_files words) IsSoundDesign (DesignOf words)
+  design_proper words timely = subst (λ files. IsProper (words.netlist ∷ files) IsSoundDesign (DesignOf words)) (append-nil (option_to_list words.last)) (
+      proper_then (netlist_proper words.netlist) (λ net valid.
+      proper_then (timing_proper words.last net words.timing timely) (λ timing valid_timing.
+      proper_gives IsSoundDesign (record { net = net; timing = timing }) (record { valid = valid; timely = valid_timing }))))
+
+  placed_proper : (words : RunWords) → IsValidTiming words.timing → IsProper (machine_files words) IsRight (PlacedOnMachine words)
+  placed_proper words timely = subst (λ files. IsProper (option_to_list words.machine ++ files) IsRight (PlacedOnMachine words)) (append-nil (design_files words)) (
+      proper_then (machine_proper words.machine) (λ machine machine_valid.
+      proper_then (design_proper words timely) (λ design sound.
+      proper_then (loop_proper design.net design.timing) (λ passed acyclic.
+      proper_then (proper_checks (HasRoom words.homes design.net machine design.timing) (room_check words.homes design.net machine design.timing (laws.room words.homes design.net machine design.timing sound.valid machine_valid acyclic))) (λ fits has.
+      proper_gives IsRight (record { homes = words.homes; machine = machine; timing = design.timing; net = design.net })
+      (record { valid = sound.valid; machine_valid = machine_valid; timely = sound.timely; acyclic = acyclic; fits = has }))))))
+
+  ready_proper : (words : RunWords) → IsValidTiming words.timing → IsProper (ready_files words) (λ ready. IsRight ready.placed) (ReadyOnMachine words)
+  ready_proper words timely =
+      proper_then (placed_proper words timely) (λ placed right.
+      proper_then (stimulus_proper words.stimulus placed.net) (λ stimulus fed.
+      proper_gives (λ ready. IsRight ready.placed) (record { placed = placed; stimulus = stimulus }) right))
+
+  -- the image of a file, and a design with it
+  image_proper : (name : List ℕ) (net : Netlist) (timing : Timing) → IsValid net → IsAcyclic net timing → IsProper (name ∷ []) (λ image. ⊤) (ImageIn name net timing)
+  image_proper name net timing valid acyclic =
+      proper_then (proper_file name IsImageFileOf HasClaims image_check (λ text file short is. is.ranges.claims)) (λ file claims.
+      proper_then (proper_checks (IsAccepted net timing file) (laws.accepted net timing file valid acyclic claims)) (λ accepted matches.
+      proper_gives (λ image. ⊤) file.image tt))
+
+  runnable_proper : (words : RunWords) (name : List ℕ) → IsValidTiming words.timing → IsProper (design_files words ++ (name ∷ [])) (λ run. IsAcyclic run.net run.timing) (RunnableIn words name)
+  runnable_proper words name timely =
+      proper_then (design_proper words timely) (λ design sound.
+      proper_then (built design sound.valid) (λ made is.
+      proper_gives (λ run. IsAcyclic run.net run.timing) (record { timing = design.timing; net = made.net; image = made.image }) is))
+    where
+      built : (design : Timed) → IsValid design.net → IsProper (name ∷ []) (λ made. IsAcyclic made.net design.timing) (BuiltIn name design.net design.timing)
+      built design valid =
+          proper_then (loop_proper design.net design.timing) (λ passed acyclic.
+          proper_then (image_proper name design.net design.timing valid acyclic) (λ image is.
+          proper_gives (λ made. IsAcyclic made.net design.timing) (record { net = design.net; image = image }) acyclic))
+
+  -- ---- ends
+
+  trace_proper : (told : Option Turns) (net : Netlist) (timing : Timing) (stimulus : Stimulus) → IsAcyclic net timing → IsProper [] (λ never. ⊥) (Ends (WritesTold told (IsTrace net timing stimulus)))
   trace_proper told net timing stimulus acyclic =
       let simulation = laws.one_simulation net timing stimulus acyclic in
-      let trace = trace_some net timing stimulus simulation in
-      command_ends (WritesTold told (IsTrace net timing stimulus)) (writes_ending told (IsTrace net timing stimulus) (λ s t is is_too. (trace_only net timing stimulus simulation s t is is_too)))
-      (outcome_writes told (IsTrace net timing stimulus) trace.0 trace.1)
+      proper_writes told (IsTrace net timing stimulus) (trace_only net timing stimulus simulation) (trace_some net timing stimulus simulation)
 
-  stimulus_proper : (file : List ℕ) (files : List (List ℕ)) (net : Netlist) (Next : Stimulus → List Reading → Outcome → Type 0) → ((stimulus : Stimulus) → IsCommand files (Next stimulus)) → IsCommand (file ∷ files) (AfterStimulus file net Next)
-  unfolding AfterStimulus
-  stimulus_proper file files net Next on =
-      command_file file files (λ text. After (IsStimulusOf text net) Next) (λ text short.
-      command_after files (IsStimulusOf text net) Next (stimulus_check text net) (λ stimulus is. on stimulus))
-
-  cells_proper : (files : List (List ℕ)) (net : Netlist) (stimulus : Stimulus) (Next : List Reading → Outcome → Type 0) → IsCommand files Next → IsCommand files (After (HasFewCells net stimulus) (λ few. Next))
-  cells_proper files net stimulus Next on =
-      command_after files (HasFewCells net stimulus) (λ few. Next) (size_check MAX_CELLS (cell_count net stimulus) cells_line) (λ few cells. on)
-
-  machine_proper : (file : Option (List ℕ)) (files : List (List ℕ)) (Next : Machine → List Reading → Outcome → Type 0) → ((machine : Machine) → IsValidMachine machine → IsCommand files (Next machine)) → IsCommand (option_to_list file ++ files) (AfterMachine file Next)
-  unfolding AfterMachine
-  machine_proper None files Next on = on default_machine laws.default_valid
-  machine_proper (Some file) files Next on =
-      command_file file files (λ text. After (IsMachineOf text) Next) (λ text short.
-      command_after files (IsMachineOf text) Next (machine_check text) (λ machine is. on machine (laws.valid_machines text machine is)))
-
-  list_proper : (last : Option (List ℕ)) (files : List (List ℕ)) (net : Netlist) (timing : Timing) (Next : Timing → List Reading → Outcome → Type 0) → IsValidTiming timing → ((t : Timing) → IsValidTiming t → IsCommand files (Next t)) → IsCommand (option_to_list last ++ files) (AfterList last net timing Next)
-  unfolding AfterList
-  list_proper None files net timing Next timely on = on timing timely
-  list_proper (Some file) files net timing Next timely on =
-      command_file file files (λ text. After (IsListOf text net) (λ listed. Next (listing timing listed))) (λ text short.
-      command_after files (IsListOf text net) (λ listed. Next (listing timing listed)) (list_check text net) (λ listed is. on (listing timing listed) (record { some = timely.some; few = timely.few; rank = timely.rank; ascends = laws.ascending net text listed is })))
-
-  loop_proper : (file : List ℕ) (net : Netlist) (timing : Timing) → IsCommand (file ∷ []) (AfterLoop file net timing)
-  loop_proper file net timing =
-      command_after (file ∷ []) (HasNoLoop net timing) (λ passed. AfterStimulus file net (KeepsTrace net timing)) (loop_check net timing (laws.order_or_loop net timing) (laws.never_both net timing)) (λ passed acyclic.
-      stimulus_proper file [] net (KeepsTrace net timing) (λ stimulus. cells_proper [] net stimulus (WritesTrace net timing stimulus) (trace_proper None net timing stimulus acyclic)))
-
-  fit_proper : (choice : HomeChoice) (files : List (List ℕ)) (net : Netlist) (machine : Machine) → IsValid net → IsValidMachine machine → (timing : Timing) (Next : List Reading → Outcome → Type 0)
-      → (IsAcyclic net timing → FitsBy choice net machine timing → IsCommand files Next) → IsCommand files (AfterFit choice net machine timing Next)
-  fit_proper choice files net machine valid machine_valid timing Next on =
-      command_after files (HasNoLoop net timing) (λ passed. After (HasRoom choice net machine timing) (λ fits. Next)) (loop_check net timing (laws.order_or_loop net timing) (laws.never_both net timing)) (λ passed acyclic.
-      command_after files (HasRoom choice net machine timing) (λ fits. Next) (room_check choice net machine timing (laws.room choice net machine timing valid machine_valid acyclic)) (λ fits has. on acyclic has))
-
-  netlist_proper : (words : RunWords) (files : List (List ℕ)) (End : Netlist → Timing → List Reading → Outcome → Type 0) → IsValidTiming words.timing → ((net : Netlist) → IsValid net → (timing : Timing) → IsValidTiming timing → IsCommand files (End net timing))
-      → IsCommand (words.netlist ∷ (option_to_list words.last ++ files)) (AfterNetlist words End)
-  unfolding AfterNetlist
-  netlist_proper words files End timely on =
-      let Listed : Netlist → List Reading → Outcome → Type 0 = λ net. AfterList words.last net words.timing (End net) in
-      let all : List (List ℕ) = option_to_list words.last ++ files in
-      command_file words.netlist all (λ text. After (IsNetlistOf text) Listed) (λ text short.
-      command_after all (IsNetlistOf text) Listed (netlist_check text) (λ net is.
-      list_proper words.last files net words.timing (End net) timely (on net (laws.valid_netlists text net short is))))
-
-  refer_proper : (words : RunWords) → IsValidTiming words.timing → IsCommand (words.netlist ∷ (option_to_list words.last ++ (words.stimulus ∷ []))) (ExpectedRefer words)
-  refer_proper words timely = netlist_proper words (words.stimulus ∷ []) (AfterLoop words.stimulus) timely (λ net valid timing valid_timing. loop_proper words.stimulus net timing)
-
-  -- a design on the machine of the files
-  placed_proper : (words : RunWords) (files : List (List ℕ)) (Next : Continuation Placed) → IsValidTiming words.timing → ((design : Placed) → IsRight words design → IsCommand files (Next design))
-      → IsCommand (option_to_list words.machine ++ (words.netlist ∷ (option_to_list words.last ++ files))) (AfterPlaced words Next)
-  placed_proper words files Next timely on =
-      machine_proper words.machine (words.netlist ∷ (option_to_list words.last ++ files)) (λ machine. AfterPlacedOn words machine Next) (λ machine machine_valid.
-      netlist_proper words files (λ net timing. AfterFit words.homes net machine timing (Next (placed words machine net timing))) timely (λ net valid timing valid_timing.
-      fit_proper words.homes files net machine valid machine_valid timing (Next (placed words machine net timing)) (λ acyclic fits.
-      on (placed words machine net timing) (record { valid = valid; machine_valid = machine_valid; timely = valid_timing; acyclic = acyclic; fits = fits }))))
-
-  -- and its stimulus
-  ready_proper : (words : RunWords) (files : List (List ℕ)) (Next : Continuation Prepared) → IsValidTiming words.timing
-      → ((design : Placed) (stimulus : Stimulus) → IsRight words design → IsCommand files (Next (record { placed = design; stimulus = stimulus })))
-      → IsCommand (option_to_list words.machine ++ (words.netlist ∷ (option_to_list words.last ++ (words.stimulus ∷ files)))) (AfterReady words Next)
-  ready_proper words files Next timely on =
-      let Fed : Placed → Stimulus → List Reading → Outcome → Type 0 = λ design stimulus. Next (record { placed = design; stimulus = stimulus }) in
-      placed_proper words (words.stimulus ∷ files) (λ design. AfterStimulus words.stimulus design.net (Fed design)) timely (λ design right.
-      stimulus_proper words.stimulus files design.net (Fed design) (λ stimulus. on design stimulus right))
-
-  lanes_proper : (words : RunWords) (design : Placed) (lanes : Lanes) → IsAcyclic design.net design.timing → IsCommand [] (KeepsLanes words design lanes)
-  lanes_proper words design lanes acyclic =
-      let net = design.net in
-      let timing = design.timing in
-      let told = Some (lanes_turns words design lanes) in
-      let one : (stimulus : Stimulus) → HasOneSimulation net timing stimulus = λ stimulus. laws.one_simulation net timing stimulus acyclic in
-      let traces = traces_some net timing one 0 lanes.lanes in
-      command_after [] (HasFewLaneCells net lanes) (λ few. Ends (WritesTold told (AreLaneTraces net timing lanes))) (size_check MAX_CELLS (lane_cell_count net lanes) cells_line) (λ few cells.
-      command_ends (WritesTold told (AreLaneTraces net timing lanes)) (writes_ending told (AreLaneTraces net timing lanes) (λ s t is is_too. (traces_only net timing one 0 lanes.lanes s t is is_too)))
-      (outcome_writes told (AreLaneTraces net timing lanes) traces.0 traces.1))
-
-  pack_proper : (words : RunWords) → IsValidTiming words.timing → IsCommand (option_to_list words.machine ++ (words.netlist ∷ (option_to_list words.last ++ (words.stimulus ∷ [])))) (ExpectedPack words)
-  unfolding AfterLanes
-  pack_proper words timely =
-      let files : List (List ℕ) = words.stimulus ∷ [] in
-      placed_proper words files (Packs words) timely (λ design right.
-      command_after files (HasFewBits design.net) (λ few. AfterLanes words.stimulus design.net (KeepsLanes words design)) (size_check MAX_PACK_BITS (memory_bits design.net) bits_limit_line) (λ few bits.
-      command_file words.stimulus [] (λ text. After (IsLanesOf text design.net) (KeepsLanes words design)) (λ text short.
-      command_after [] (IsLanesOf text design.net) (KeepsLanes words design) (lanes_check text design.net) (λ lanes is. lanes_proper words design lanes right.acyclic))))
-
-  list_of_faults : (net : Netlist) (timing : Timing) (faults : List Fault) (stimulus : Stimulus) → HasOneList net timing stimulus faults → IsCommand [] (ListsFaults net timing faults stimulus)
-  list_of_faults net timing faults stimulus one =
-      command_ends (Writes (IsFaultList net timing stimulus faults)) (writes_ending None (IsFaultList net timing stimulus faults) (λ s t is is_too. (only s t is is_too)))
-      (outcome_writes None (IsFaultList net timing stimulus faults) (joined (fault_lines net faults one.verdicts)) (record { verdicts = one.verdicts; are = one.exists; printed = refl }))
+  verdicts_proper : (net : Netlist) (timing : Timing) (stimulus : Stimulus) (faults : List Fault) → HasOneList net timing stimulus faults → IsProper [] (λ never. ⊥) (Ends (Writes (IsFaultList net timing stimulus faults)))
+  verdicts_proper net timing stimulus faults one =
+      proper_writes None (IsFaultList net timing stimulus faults) only (joined (fault_lines net faults one.verdicts), record { verdicts = one.verdicts; are = one.exists; printed = refl })
     where
       only : (s t : List ℕ) → IsFaultList net timing stimulus faults s → IsFaultList net timing stimulus faults t → s ≡ t
       only s t is is_too = is.printed ∙ ap (λ verdicts. joined (fault_lines net faults verdicts)) (one.only is.verdicts is.are ∙ sym (one.only is_too.verdicts is_too.are)) ∙ sym is_too.printed
 
-  listed_proper : (file : List ℕ) (net : Netlist) (timing : Timing) → IsAcyclic net timing → (listed : Option (List Fault)) → All (IsFault net) (listed_or_all net listed) → IsCommand (file ∷ []) (AfterListed file net timing listed)
-  listed_proper file net timing acyclic listed are =
-      let faults = listed_or_all net listed in
-      stimulus_proper file [] net (ListsFaults net timing faults) (λ stimulus. list_of_faults net timing faults stimulus (laws.verdicts net timing stimulus faults acyclic are))
-
-  faults_listed : (file : Option (List ℕ)) (files : List (List ℕ)) (net : Netlist) (Next : Option (List Fault) → List Reading → Outcome → Type 0) → ((listed : Option (List Fault)) → All (IsFault net) (listed_or_all net listed) → IsCommand files (Next listed)) → IsCommand (option_to_list file ++ files) (AfterFaultList file net Next)
-  unfolding AfterFaultList
-  faults_listed None files net Next on = on None (laws.all_faults net)
-  faults_listed (Some file) files net Next on =
-      command_file file files (λ text. After (IsFaultListOf text net) (λ faults. Next (Some faults))) (λ text short.
-      command_after files (IsFaultListOf text net) (λ faults. Next (Some faults)) (faults_check text net) (λ faults is. on (Some faults) (laws.stuck net text faults is)))
-
-  faults_proper : (words : RunWords) (net : Netlist) (timing : Timing) → IsCommand (option_to_list words.faults ++ (words.stimulus ∷ [])) (FaultsIn words net timing)
-  faults_proper words net timing =
-      let files : List (List ℕ) = option_to_list words.faults ++ (words.stimulus ∷ []) in
-      let Then : List Reading → Outcome → Type 0 = AfterFaultList words.faults net (AfterListed words.stimulus net timing) in
-      command_after files (HasNoLoop net timing) (λ passed. After (HasFewSignals net) (λ few. Then)) (loop_check net timing (laws.order_or_loop net timing) (laws.never_both net timing)) (λ passed acyclic.
-      command_after files (HasFewSignals net) (λ few. Then) (size_check MAX_FAULT_SIGNALS (length net.signals) signals_line) (λ few signals.
-      faults_listed words.faults (words.stimulus ∷ []) net (AfterListed words.stimulus net timing) (listed_proper words.stimulus net timing acyclic)))
-
-  fault_proper : (words : RunWords) → IsValidTiming words.timing → IsCommand (words.netlist ∷ (option_to_list words.last ++ (option_to_list words.faults ++ (words.stimulus ∷ [])))) (ExpectedFault words)
-  fault_proper words timely = netlist_proper words (option_to_list words.faults ++ (words.stimulus ∷ [])) (FaultsIn words) timely (λ net valid timing valid_timing. faults_proper words net timing)
-
-  one_text_of_marks : (net : Netlist) (timing : Timing) (stimulus : Stimulus) → HasOneCoverage net timing stimulus → IsCommand [] (WritesCoverage net timing stimulus)
-  one_text_of_marks net timing stimulus one =
-      command_ends (Writes (IsCoverage net timing stimulus)) (writes_ending None (IsCoverage net timing stimulus) (λ s t is is_too. (only s t is is_too)))
-      (outcome_writes None (IsCoverage net timing stimulus) (joined (cover_lines net one.marks)) (record { marks = one.marks; are = one.exists; printed = refl }))
+  marks_proper : (net : Netlist) (timing : Timing) (stimulus : Stimulus) → HasOneCoverage net timing stimulus → IsProper [] (λ never. ⊥) (Ends (Writes (IsCoverage net timing stimulus)))
+  marks_proper net timing stimulus one =
+      proper_writes None (IsCoverage net timing stimulus) only (joined (cover_lines net one.marks), record { marks = one.marks; are = one.exists; printed = refl })
     where
       only : (s t : List ℕ) → IsCoverage net timing stimulus s → IsCoverage net timing stimulus t → s ≡ t
       only s t is is_too = is.printed ∙ ap (λ marks. joined (cover_lines net marks)) (one.only is.marks is.are ∙ sym (one.only is_too.marks is_too.are)) ∙ sym is_too.printed
 
-  covers_proper : (file : List ℕ) (net : Netlist) (timing : Timing) → IsCommand (file ∷ []) (CoversIn file net timing)
-  covers_proper file net timing =
-      command_after (file ∷ []) (HasNoLoop net timing) (λ passed. AfterStimulus file net (WritesCoverage net timing)) (loop_check net timing (laws.order_or_loop net timing) (laws.never_both net timing)) (λ passed acyclic.
-      stimulus_proper file [] net (WritesCoverage net timing) (λ stimulus. one_text_of_marks net timing stimulus (laws.coverages net timing stimulus acyclic)))
-
-  cover_proper : (words : RunWords) → IsValidTiming words.timing → IsCommand (words.netlist ∷ (option_to_list words.last ++ (words.stimulus ∷ []))) (ExpectedCover words)
-  cover_proper words timely = netlist_proper words (words.stimulus ∷ []) (CoversIn words.stimulus) timely (λ net valid timing valid_timing. covers_proper words.stimulus net timing)
-
-  sheet_proper : (asked : Sheet) (choice : HomeChoice) (net : Netlist) (machine : Machine) (timing : Timing) → IsValid net → IsValidMachine machine → IsValidTiming timing → IsAcyclic net timing → FitsBy choice net machine timing
-      → IsCommand [] (Ends (Writes (IsSheetOf asked choice net machine timing)))
-  sheet_proper sheet.Report choice net machine timing valid machine_valid timely acyclic fits =
-      let once = laws.once choice net machine timing valid in
-      let report = some_report choice net machine timing once (laws.homes choice net machine timing valid machine_valid fits) in
-      command_ends (Writes (IsReportOf choice net machine timing)) (writes_ending None (IsReportOf choice net machine timing) (one_report choice net machine timing once))
-      (outcome_writes None (IsReportOf choice net machine timing) report.0 report.1)
-  sheet_proper sheet.Image choice net machine timing valid machine_valid timely acyclic fits =
-      let text = some_text choice net machine timing (laws.designs choice net machine timing valid machine_valid timely acyclic fits) in
-      command_ends (Writes (IsImageTextOf choice net machine timing)) (writes_ending None (IsImageTextOf choice net machine timing) (one_text choice net machine timing (laws.one_image choice net machine timing valid)))
-      (outcome_writes None (IsImageTextOf choice net machine timing) text.0 text.1)
-
-  layout_proper : (asked : Sheet) (words : RunWords) → IsValidTiming words.timing → IsCommand (option_to_list words.machine ++ (words.netlist ∷ option_to_list words.last)) (ExpectedLayout asked words)
-  layout_proper asked words timely =
-      subst (λ (files : List (List ℕ)). IsCommand (option_to_list words.machine ++ (words.netlist ∷ files)) (ExpectedLayout asked words)) (append-nil (option_to_list words.last))
-      (placed_proper words [] (λ design. Ends (Writes (IsSheetOf asked words.homes design.net design.machine design.timing))) timely (λ design right.
-      sheet_proper asked words.homes design.net design.machine design.timing right.valid right.machine_valid right.timely right.acyclic right.fits))
-
-  large_proper : (gates cycles workers : ℕ) → gates ≤ MAX_LARGE_GATES → IsCommand [] (ExpectedLarge gates cycles workers)
-  large_proper gates cycles workers few =
-      let told = Some (large_turns cycles workers) in
-      let IsEnd : Outcome → Type 0 = λ o. WritesTold told (IsSummaryOf gates cycles) o ⊎ (o ≡ telling told out_of_memory) in
-      let summary = laws.summaries gates cycles few in
-      command_ends IsEnd (full_ending told (WritesTold told (IsSummaryOf gates cycles)) (writes_ending told (IsSummaryOf gates cycles) (λ s t is is_too. (laws.one_summary gates cycles s t few is is_too))))
-      (outcome_ends IsEnd (telling told (done summary.0)) (inl (summary.0, summary.1, refl)) (λ e. cc))
-
-  help_proper : (topic : Option Topic) → IsCommand [] (ExpectedHelp topic)
-  help_proper topic =
-      command_ends (Writes (λ output. output ≡ text_of topic)) (writes_ending None (λ output. output ≡ text_of topic) (λ s t e f. (e ∙ sym f)))
-      (outcome_writes None (λ output. output ≡ text_of topic) (text_of topic) refl)
-
-  show_proper : (file : List ℕ) → IsCommand (file ∷ []) (ExpectedShow file)
-  unfolding ExpectedShow
-  show_proper file =
-      command_file file [] (λ text. After (IsNetlistOf text) (λ net. Ends (Writes (λ output. output ≡ canonical_text net)))) (λ text short.
-      command_after [] (IsNetlistOf text) (λ net. Ends (Writes (λ output. output ≡ canonical_text net))) (netlist_check text) (λ net is.
-      command_ends (Writes (λ output. output ≡ canonical_text net)) (writes_ending None (λ output. output ≡ canonical_text net) (λ s t e f. (e ∙ sym f)))
-      (outcome_writes None (λ output. output ≡ canonical_text net) (canonical_text net) refl)))
-
-  image_proper : (words : RunWords) (name : List ℕ) (net : Netlist) → IsValid net → (timing : Timing) → IsCommand (name ∷ words.stimulus ∷ []) (OnImage words name net timing)
-  unfolding AfterImage
-  image_proper words name net valid timing =
-      let Run : Image → List Reading → Outcome → Type 0 = RunsImage words net timing in
-      command_after (name ∷ words.stimulus ∷ []) (HasNoLoop net timing) (λ passed. AfterImage name net timing Run) (loop_check net timing (laws.order_or_loop net timing) (laws.never_both net timing)) (λ passed acyclic.
-      command_file name (words.stimulus ∷ []) (λ text. After (IsImageFileOf text) (λ file. AfterMatch net timing file Run)) (λ text short.
-      command_after (words.stimulus ∷ []) (IsImageFileOf text) (λ file. AfterMatch net timing file Run) (image_check text) (λ file is.
-      command_after (words.stimulus ∷ []) (IsAccepted net timing file) (λ accepted. Run file.image) (laws.accepted net timing file valid acyclic is.ranges.claims) (λ accepted matches.
-      stimulus_proper words.stimulus [] net (RunsTo (length file.image.ports) words timing net) (λ stimulus. trace_proper (Some (run_turns (length file.image.ports) words timing net stimulus)) net timing stimulus acyclic)))))
-
-  exec_proper : (words : RunWords) (name : List ℕ) → IsValidTiming words.timing → IsCommand (words.netlist ∷ (option_to_list words.last ++ (name ∷ words.stimulus ∷ []))) (ExpectedExec words name)
-  exec_proper words name timely = netlist_proper words (name ∷ words.stimulus ∷ []) (OnImage words name) timely (λ net valid timing valid_timing. image_proper words name net valid timing)
-
-  run_proper : (words : RunWords) → IsValidTiming words.timing → IsCommand (option_to_list words.machine ++ (words.netlist ∷ (option_to_list words.last ++ (words.stimulus ∷ [])))) (ExpectedRun words)
-  run_proper words timely =
-      ready_proper words [] (RunsOn words) timely (λ design stimulus right. trace_proper (Some (run_turns (ports_of design.machine) words design.timing design.net stimulus)) design.net design.timing stimulus right.acyclic)
+  sheet_proper : (asked : Sheet) (design : Placed) → IsValid design.net → IsValidMachine design.machine → IsValidTiming design.timing → IsAcyclic design.net design.timing → FitsBy design.homes design.net design.machine design.timing
+      → IsProper [] (λ never. ⊥) (Ends (Writes (IsSheetOf asked design.homes design.net design.machine design.timing)))
+  sheet_proper sheet.Report design valid machine_valid timely acyclic fits =
+      let once = laws.once design.homes design.net design.machine design.timing valid in
+      proper_writes None (IsReportOf design.homes design.net design.machine design.timing) (one_report design.homes design.net design.machine design.timing once)
+      (some_report design.homes design.net design.machine design.timing once (laws.homes design.homes design.net design.machine design.timing valid machine_valid fits))
+  sheet_proper sheet.Image design valid machine_valid timely acyclic fits =
+      proper_writes None (IsImageTextOf design.homes design.net design.machine design.timing) (one_text design.homes design.net design.machine design.timing (laws.one_image design.homes design.net design.machine design.timing valid))
+      (some_text design.homes design.net design.machine design.timing (laws.designs design.homes design.net design.machine design.timing valid machine_valid timely acyclic fits))
 
   -- with an order file the state after the steps of the order tells the outcome
-  ends_proper : (file : Option (List ℕ)) (words : RunWords) (design : Placed) (stimulus : Stimulus) → 1 ≤ words.banks → IsRight words design → IsCommand (option_to_list file) (EndsByOrder file words design stimulus)
+  ends_proper : (file : Option (List ℕ)) (words : RunWords) (ready : Prepared) → 1 ≤ words.banks → IsRight ready.placed → IsProper (option_to_list file) (λ never. ⊥) (EndsByOrder file words ready)
   unfolding EndsByOrder
-  ends_proper None words design stimulus banks right = trace_proper None design.net design.timing stimulus right.acyclic
-  ends_proper (Some file) words design stimulus banks right =
-      let net = design.net in
-      let machine = design.machine in
-      let timing = design.timing in
+  ends_proper None words ready banks right = trace_proper None ready.placed.net ready.placed.timing ready.stimulus right.acyclic
+  ends_proper (Some file) words ready banks right =
+      let homes = ready.placed.homes in
+      let net = ready.placed.net in
+      let machine = ready.placed.machine in
+      let timing = ready.placed.timing in
+      let stimulus = ready.stimulus in
       let simulation = laws.one_simulation net timing stimulus right.acyclic in
-      command_file file [] (λ text. After (IsOrderOf text machine) (EndsAfter words design stimulus)) (λ text short.
-      command_after [] (IsOrderOf text machine) (EndsAfter words design stimulus) (order_check text machine) (λ order is.
-      command_ends (EndsInOrder order words.banks words.homes net machine timing stimulus)
-      (order_ending net timing stimulus order words.banks words.homes machine simulation (laws.decides order words.banks words.homes net machine timing stimulus banks right.valid))
-      (order_outcome net timing stimulus order words.banks words.homes machine simulation (laws.designs words.homes net machine timing right.valid right.machine_valid right.timely right.acyclic right.fits)
-      (laws.valid_orders (ports_of machine) text order is) (λ image well within. laws.steps image stimulus words.banks (turn_count timing stimulus) (steps_of order) well banks within))))
+      proper_then (order_in_proper file machine) (λ order order_valid.
+      proper_ends (EndsInOrder order words.banks homes net machine timing stimulus)
+      (order_ending net timing stimulus order words.banks homes machine simulation (laws.decides order words.banks homes net machine timing stimulus banks right.valid))
+      (order_outcome net timing stimulus order words.banks homes machine simulation (laws.designs homes net machine timing right.valid right.machine_valid right.timely right.acyclic right.fits)
+      order_valid (λ image well within. laws.steps image stimulus words.banks (turn_count timing stimulus) (steps_of order) well banks within)))
 
-  order_proper : (words : RunWords) → 1 ≤ words.banks → IsValidTiming words.timing → IsCommand (option_to_list words.machine ++ (words.netlist ∷ (option_to_list words.last ++ (words.stimulus ∷ option_to_list words.order)))) (ExpectedOrder words)
+  -- ---- commands
+
+  run_proper : (words : RunWords) → IsValidTiming words.timing → IsProper (ready_files words) (λ never. ⊥) (Runs words)
+  run_proper words timely = subst (λ files. IsProper files (λ never. ⊥) (Runs words)) (append-nil (ready_files words)) (
+      proper_then (ready_proper words timely) (λ ready right.
+      trace_proper (Some (run_turns (ports_of ready.placed.machine) words ready.placed.timing ready.placed.net ready.stimulus)) ready.placed.net ready.placed.timing ready.stimulus right.acyclic))
+
+  refer_proper : (words : RunWords) → IsValidTiming words.timing → IsProper (design_files words ++ (words.stimulus ∷ [])) (λ never. ⊥) (Refers words)
+  refer_proper words timely =
+      proper_then (design_proper words timely) (λ design sound.
+      proper_then (loop_proper design.net design.timing) (λ passed acyclic.
+      proper_then (stimulus_proper words.stimulus design.net) (λ stimulus fed.
+      proper_then (size_proper MAX_CELLS (cell_count design.net stimulus) cells_line) (λ few cells.
+      trace_proper None design.net design.timing stimulus acyclic))))
+
+  order_proper : (words : RunWords) → 1 ≤ words.banks → IsValidTiming words.timing → IsProper (ready_files words ++ option_to_list words.order) (λ never. ⊥) (Orders words)
   order_proper words banks timely =
-      let files : List (List ℕ) = option_to_list words.order in
-      ready_proper words files (OrdersOn words) timely (λ design stimulus right.
-      cells_proper files design.net stimulus (EndsByOrder words.order words design stimulus) (ends_proper words.order words design stimulus banks right))
+      proper_then (ready_proper words timely) (λ ready right.
+      proper_then (size_proper MAX_CELLS (cell_count ready.placed.net ready.stimulus) cells_line) (λ few cells.
+      ends_proper words.order words ready banks right))
 
-  command_proper : (asked : Command) → IsInRange asked → IsCommand (files_of asked) (ExpectedOf asked)
+  layout_proper : (asked : Sheet) (words : RunWords) → IsValidTiming words.timing → IsProper (machine_files words) (λ never. ⊥) (LaysOut asked words)
+  layout_proper asked words timely = subst (λ files. IsProper files (λ never. ⊥) (LaysOut asked words)) (append-nil (machine_files words)) (
+      proper_then (placed_proper words timely) (λ design right.
+      sheet_proper asked design right.valid right.machine_valid right.timely right.acyclic right.fits))
+
+  exec_proper : (words : RunWords) (name : List ℕ) → IsValidTiming words.timing → IsProper (design_files words ++ (name ∷ words.stimulus ∷ [])) (λ never. ⊥) (Executes words name)
+  exec_proper words name timely = subst (λ files. IsProper files (λ never. ⊥) (Executes words name)) (append_assoc (design_files words) (name ∷ []) (words.stimulus ∷ [])) (
+      proper_then (runnable_proper words name timely) (λ run acyclic.
+      proper_then (stimulus_proper words.stimulus run.net) (λ stimulus fed.
+      trace_proper (Some (run_turns (length run.image.ports) words run.timing run.net stimulus)) run.net run.timing stimulus acyclic)))
+
+  pack_proper : (words : RunWords) → IsValidTiming words.timing → IsProper (ready_files words) (λ never. ⊥) (Packs words)
+  pack_proper words timely =
+      proper_then (placed_proper words timely) (λ design right.
+      proper_then (size_proper MAX_PACK_BITS (memory_bits design.net) bits_limit_line) (λ few bits.
+      proper_then (lanes_proper words.stimulus design.net) (λ lanes fed.
+      proper_then (size_proper MAX_CELLS (lane_cell_count design.net lanes) cells_line) (λ fewer cells.
+      let one : (stimulus : Stimulus) → HasOneSimulation design.net design.timing stimulus = λ stimulus. laws.one_simulation design.net design.timing stimulus right.acyclic in
+      proper_writes (Some (lanes_turns words design lanes)) (AreLaneTraces design.net design.timing lanes) (traces_only design.net design.timing one 0 lanes.lanes) (traces_some design.net design.timing one 0 lanes.lanes)))))
+
+  fault_proper : (words : RunWords) → IsValidTiming words.timing → IsProper (design_files words ++ (option_to_list words.faults ++ (words.stimulus ∷ []))) (λ never. ⊥) (Faults words)
+  fault_proper words timely =
+      proper_then (design_proper words timely) (λ design sound.
+      proper_then (loop_proper design.net design.timing) (λ passed acyclic.
+      proper_then (size_proper MAX_FAULT_SIGNALS (length design.net.signals) signals_line) (λ few signals.
+      proper_then (faults_proper words.faults design.net) (λ listed are.
+      proper_then (stimulus_proper words.stimulus design.net) (λ stimulus fed.
+      verdicts_proper design.net design.timing stimulus (listed_or_all design.net listed) (laws.verdicts design.net design.timing stimulus (listed_or_all design.net listed) acyclic are))))))
+
+  cover_proper : (words : RunWords) → IsValidTiming words.timing → IsProper (design_files words ++ (words.stimulus ∷ [])) (λ never. ⊥) (Covers words)
+  cover_proper words timely =
+      proper_then (design_proper words timely) (λ design sound.
+      proper_then (loop_proper design.net design.timing) (λ passed acyclic.
+      proper_then (stimulus_proper words.stimulus design.net) (λ stimulus fed.
+      marks_proper design.net design.timing stimulus (laws.coverages design.net design.timing stimulus acyclic))))
+
+  show_proper : (file : List ℕ) → IsProper (file ∷ []) (λ never. ⊥) (Shows file)
+  show_proper file =
+      proper_then (netlist_proper file) (λ net valid.
+      proper_writes None (λ output. output ≡ canonical_text net) (λ s t e f. e ∙ sym f) (canonical_text net, refl))
+
+  large_proper : (gates cycles workers : ℕ) → gates ≤ MAX_LARGE_GATES → IsProper [] (λ never. ⊥) (RunsLarge gates cycles workers)
+  large_proper gates cycles workers few =
+      let told = Some (large_turns cycles workers) in
+      let summary = laws.summaries gates cycles few in
+      proper_ends (λ o. WritesTold told (IsSummaryOf gates cycles) o ⊎ (o ≡ telling told out_of_memory))
+      (full_ending told (WritesTold told (IsSummaryOf gates cycles)) (writes_ending told (IsSummaryOf gates cycles) (λ s t is is_too. laws.one_summary gates cycles s t few is is_too)))
+      (telling told (done summary.0), inl (summary.0, summary.1, refl), λ e. cc)
+
+  help_proper : (topic : Option Topic) → IsProper [] (λ never. ⊥) (Helps topic)
+  help_proper topic = proper_writes None (λ output. output ≡ text_of topic) (λ s t e f. e ∙ sym f) (text_of topic, refl)
+
+  command_proper : (asked : Command) → IsInRange asked → IsProper (files_of asked) (λ never. ⊥) (CallOf asked)
   command_proper (command.Run words) range = run_proper words range.timing
   command_proper (command.Refer words) range = refer_proper words range.timing
   command_proper (command.Order words) range = order_proper words range.banks_some range.timing
@@ -390,10 +372,10 @@ module _ (laws : Laws) where
       values = λ x y has has_too. same x y (sym (asked_as words x has) ∙ asked_as words y has_too);
       either = λ x o has refused. refused.0 x has;
       refusals = λ o p refused refused_too. alike o p (refused.1 ∙ sym refused_too.1);
-      not_memory = λ o refused memory. not_memory (words_status o refused.1) memory;
-      not_read = λ o refused read. not_read (words_status o refused.1) read;
-      not_written = λ o refused written. not_written (words_status o refused.1) written;
     };
+    not_memory = λ o refused memory. not_memory (words_status o refused.1) memory;
+    not_read = λ o refused read. not_read (words_status o refused.1) read;
+    not_written = λ o refused written. not_written (words_status o refused.1) written;
     some = some (asked words) refl;
   }
     where
@@ -404,25 +386,21 @@ module _ (laws : Laws) where
       some None is = inr (refusal status.Words usage_line, ((λ command has. none_some (sym is ∙ asked_as words command has)), refl))
       some (Some command) is = inl (command, (laws.forms words command).0 is)
 
-  asked_proper : (words : List (List ℕ)) → IsProper (files_named (asked words)) (After (Asks words) ExpectedOf)
-  asked_proper words =
-      proper_after (files_named (asked words)) (Asks words) ExpectedOf (words_check words).once
-      (λ command has. subst (λ a. IsProper (files_named a) (ExpectedOf command)) (sym (asked_as words command has)) (command_proper command (laws.in_range words command has)).proper)
+  call_sound : (words : List (List ℕ)) → IsSound (files_named (asked words)) (λ never. ⊥) (CallFor words)
+  call_sound words =
+      sound_then (sound_checks (Asks words) (words_check words)) (λ command has.
+      subst (λ a. IsSound (files_named a) (λ never. ⊥) (CallOf command)) (sym (asked_as words command has)) (command_proper command (laws.in_range words command has)).sound)
 
-  asked_some : (words : List (List ℕ)) → HasOutcome (After (Asks words) ExpectedOf)
-  asked_some words =
-      outcome_after (Asks words) ExpectedOf (words_check words)
-      (λ command has. (command_proper command (laws.in_range words command has)).some)
-
-  asked_words : (words : List (List ℕ)) (readings : List Reading) (outcome : Outcome) → After (Asks words) ExpectedOf readings outcome → outcome.status ≢ status.Memory → (outcome.status ≡ status.Words) ↔ (asked words ≡ None)
-  asked_words words readings outcome (inl (command, has, next)) other =
-      (λ s. absurd (not_words outcome.status ((command_proper command (laws.in_range words command has)).statuses readings outcome next) s), λ none. absurd (none_some (sym none ∙ asked_as words command has)))
+  asked_words : (words : List (List ℕ)) (readings : List Reading) (outcome : Outcome) → CallFor words readings (Err outcome) → outcome.status ≢ status.Memory → (outcome.status ≡ status.Words) ↔ (asked words ≡ None)
+  asked_words words readings outcome (inl (taken, left, e, command, (none, inl has), next)) other =
+      (λ s. absurd (not_words outcome.status ((command_proper command (laws.in_range words command has)).statuses left outcome next) s), λ none. absurd (none_some (sym none ∙ asked_as words command has)))
+  asked_words words readings outcome (inl (taken, left, e, command, (none, inr never), next)) other = absurd (no_ok command _ never)
   asked_words words readings outcome (inr (none, inl refused)) other = (λ s. no_command (asked words) refl, λ n. words_status outcome refused.1)
     where
       no_command : (o : Option Command) → asked words ≡ o → asked words ≡ None
       no_command None is = is
       no_command (Some command) is = absurd (refused.0 command ((laws.forms words command).0 is))
-  asked_words words readings outcome (inr (none, inr memory)) other = absurd (other (memory_status outcome memory))
+  asked_words words readings outcome (inr (none, inr memory)) other = absurd (other (memory_status outcome (same_err {X = Command} outcome out_of_memory memory)))
 
 pub returns : goal.returns
 unfolding Expected
@@ -501,8 +479,8 @@ returns c =
       one_simulation = c.one_simulation.ensures.without_loop;
     } in
     record {
-      proper = asked_proper laws;
-      outcomes = asked_some laws;
+      proper = λ words. law_of (files_named (asked words)) (CallFor words) (call_sound laws words);
+      outcomes = λ words. outcome_of (files_named (asked words)) (CallFor words) (call_sound laws words);
       words = record {
         refused = asked_words laws;
         forms = c.forms_are_asked.ensures;

@@ -1,29 +1,30 @@
 -- The chains of the three calls, and how the last one ended.
-use Rattle.std.proofs.Common.{◌≡◌, ◌∙◌, sym, ap, subst, ◌⊎◌, inl, inr, List, Some, ℕ}
+use Rattle.std.proofs.Common.{◌≡◌, ◌∙◌, sym, ap, subst, ◌⊎◌, inl, inr, List, Some, Err, ℕ}
 use Rattle.std.specs.Io.KnownBytes.{append_known}
 use Rattle.cmd_words.specs.{Asked.asked, declared.command.Command.Command, Forms.HasForm}
 use Rattle.cmd_words.specs.declared.command.Command.TheVariants as command
 use Rattle.call_steps.specs.{Outcome.Outcome, Readings.Reading}
 use Rattle.refusals.specs.declared.status.Status.TheVariants as status
-use Rattle.yse_commands.specs.{Expected.Expected, Expected.ExpectedOf, Words.files_named}
+use Rattle.yse_commands.specs.{Expected.Expected, Expected.CallOf, Words.files_named}
 use Rattle.yse_top.specs.Law.{TellsWords}
-use Rattle.yse_top.proofs.{CheckLemmas.default_is_valid, EndLemmas.fault_rose, ProperLemmas.memory_status}
+use Rattle.yse_top.proofs.{CallLemmas.asked_came, CheckLemmas.default_is_valid, EndLemmas.fault_rose, ProperLemmas.memory_status}
 use Rattle.yse_top.proofs.SequelLemmas.{IsEndOf, Laws, sequel_ends}
 use Rattle.yse_top.proofs.law.compiled_images_run.Goals as goal
 
--- the chain of the command that the words ask for
-chain_of : TellsWords → (words : List (List ℕ)) (asked_for : Command) → HasForm words asked_for → (readings : List Reading) (o : Outcome) → Expected words readings o → ExpectedOf asked_for readings o ⊎ (o.status ≡ status.Memory)
+-- the call of the command that the words ask for
+chain_of : TellsWords → (words : List (List ℕ)) (asked_for : Command) → HasForm words asked_for → (readings : List Reading) (o : Outcome) → Expected words readings o → CallOf asked_for readings (Err o) ⊎ (o.status ≡ status.Memory)
 unfolding Expected
-chain_of laws words asked_for has readings o (inl (other, has_too, next)) =
-    inl (subst (λ (c : Command). ExpectedOf c readings o) (same (sym ((laws.forms words other).1 has_too) ∙ (laws.forms words asked_for).1 has)) next)
+chain_of laws words asked_for has readings o came = elim (asked_came words readings o came) [
+  | inl (other, has_too, next) ↦ inl (subst (λ (c : Command). CallOf c readings (Err o)) (same other (sym ((laws.forms words other).1 has_too) ∙ (laws.forms words asked_for).1 has)) next)
+  | inr (inl refused) ↦ absurd (refused.0 asked_for has)
+  | inr (inr memory) ↦ inr (memory_status o memory)
+]
   where
-    same : Some other ≡ Some asked_for → other ≡ asked_for
-    same e = cc
-chain_of laws words asked_for has readings o (inr (none, inl refused)) = absurd (refused.0 asked_for has)
-chain_of laws words asked_for has readings o (inr (none, inr memory)) = inr (memory_status o memory)
+    same : (other : Command) → Some other ≡ Some asked_for → other ≡ asked_for
+    same other e = cc
 
 -- that of a call that ended well
-chain_well : TellsWords → (words : List (List ℕ)) (asked_for : Command) → HasForm words asked_for → (readings : List Reading) (o : Outcome) → o.status ≡ status.Done → Expected words readings o → ExpectedOf asked_for readings o
+chain_well : TellsWords → (words : List (List ℕ)) (asked_for : Command) → HasForm words asked_for → (readings : List Reading) (o : Outcome) → o.status ≡ status.Done → Expected words readings o → CallOf asked_for readings (Err o)
 chain_well laws words asked_for has readings o well expected = elim (chain_of laws words asked_for has readings o expected) [
   | inl chain ↦ chain
   | inr memory ↦ absurd (other (sym well ∙ memory))
