@@ -47,7 +47,7 @@ printed_few gates = let long = length-map-range_with_len (λ j. 8 + j) (gates - 
 
 module _ (net : Netlist) (compiled : Compiled) (is : IsCompiled net large_machine large_timing compiled) where
   pub printed_large : length (printed_sources compiled.image) ≡ length net.printed
-  printed_large = rw host.1 ((is.built.matches.printed host.0 host.1).as_many ∙ is.items.printed.each) where
+  printed_large = rw host.1 ((is.built.matches.printed host.0 host.1).as_many ∙ is.items.items.printed.each) where
     host : (port : PortImage) × (slice_get compiled.image.ports (host_of compiled.image) ≡ Some port)
     host = member_at compiled.image.ports (host_of compiled.image) (omega (arith, is.built.fits.some_ports))
 
