@@ -67,5 +67,8 @@ pub(crate) fn items_of(alloc: Global, net: &Netlist, timing: &Timing) -> Option<
         return None;
     };
     items_are_well_formed();
-    map_nodes(alloc, net, &ranks, timing).ok()
+    let Ok(nodes) = map_nodes(alloc, net, &ranks, timing) else {
+        return None;
+    };
+    Some(nodes)
 }
